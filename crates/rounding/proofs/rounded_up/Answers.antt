@@ -1,10 +1,29 @@
-use borrow.Author.Needs.{needs}
+use mathlib.Core.Path.{_≡_, ap, subst, sym, _∙_}
+use Prim.Native.Nat.{ℕ, _/_, _%_, _+_, _<_, _^_, min}
+use native.Mathlib.Omega.{arith}
+use lib.IntN.{ℤ, natAbs}
+use lib.Signed.{mag}
+use mir.Syntax.{w64}
+use mir.Val.{toZ, ofZ}
+use Rattle.std.proofs.shelf.Signed.{ints, toZ-ofZ}
+use Rattle.rounding.specs.Quotient.{RoundedUp, roundedUp}
+use Rattle.rounding.proofs.Least.{gain, least, loss}
 use Rattle.rounding.proofs.rounded_up.Needs as need
 
--- src/lib.rt:7:1
-pub returns-then-n-lt0 : need.returns-then-n-lt0
-returns-then-n-lt0 c = ?
+answer : (n : ℤ) (d : ℕ) (r : ℤ) → mag r < 2 ^ 63 → r ≡ roundedUp n d → record { value : toZ w64 (ofZ w64 r) ≡ roundedUp n d; least : 0 < d → RoundedUp n d (toZ w64 (ofZ w64 r)) }
+answer n d r fits e =
+    let same = toZ-ofZ w64 r (record { sfits = fits }) ∙ e in
+    record { value = same; least = λ h. subst (RoundedUp n d) (sym same) (least n d h) }
 
--- src/lib.rt:7:1
+pub returns-then-n-lt0 : need.returns-then-n-lt0
+returns-then-n-lt0 c =
+    let size : c .unsigned-abs-size .result ≡ natAbs (c .args .n) = c .unsigned-abs-size .ensures .value ∙ ap natAbs (toZ-ofZ w64 (c .args .n) (c .fits .n)) in
+    let wraps = subst (λ (s : ℕ). (c .wrapping-neg .result + s / c .args .d) % 2 ^ 64 ≡ 0) size (c .wrapping-neg .ensures) in
+    answer (c .args .n) (c .args .d) (c .cast-signed .result) (c .cast-signed .ok)
+    (c .cast-signed .ensures ∙ loss (c .args .n) (c .args .d) (c .wrapping-neg .result) (omega (arith, ints)) (omega (arith, size)) (c .wrapping-neg .ok) wraps)
+
 pub returns-else-n-lt0 : need.returns-else-n-lt0
-returns-else-n-lt0 c = ?
+returns-else-n-lt0 c =
+    let size : c .unsigned-abs-size .result ≡ natAbs (c .args .n) = c .unsigned-abs-size .ensures .value ∙ ap natAbs (toZ-ofZ w64 (c .args .n) (c .fits .n)) in
+    answer (c .args .n) (c .args .d) (c .cast-signed-else-n-lt0 .result) (c .cast-signed-else-n-lt0 .ok)
+    (c .cast-signed-else-n-lt0 .ensures ∙ gain (c .args .n) (c .args .d) (c .div-ceil .result) (omega arith) (omega (arith, ints)) (c .fits .n .sfits) (c .div-ceil .ensures ∙ ap (λ s. s / c .args .d + min 1 (s % c .args .d)) size))
