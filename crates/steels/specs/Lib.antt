@@ -1,1 +1,3 @@
+pub mod Carbon
 pub mod Meaning
+pub mod Table

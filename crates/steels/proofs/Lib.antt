@@ -1,0 +1,3 @@
+pub mod CarbonRules
+pub mod Lines
+pub mod Tables
