@@ -35,8 +35,10 @@ tried : (d : ℕ) → d < 1201 → (300 ≤ heat d) × (heat d ≤ 6000)
 unfolding in-range all-below
 tried d h =
     decides-below-and in-range (λ k. (300 ≤ heat k) × (heat k ≤ 6000)) all-below
-    (λ k. ((λ t. let both = and-parts (leb 300 (heat k)) (leb (heat k) 6000) t in (leb-true _ _ (both .0), leb-true _ _ (both .1))),
-      (λ both. and-from _ _ (le-leb _ _ (both .0)) (le-leb _ _ (both .1)))))
+    (λ k. (
+      (λ t. let both = and-parts (leb 300 (heat k)) (leb (heat k) 6000) t in (leb-true _ _ (both .0), leb-true _ _ (both .1))),
+      (λ both. and-from _ _ (le-leb _ _ (both .0)) (le-leb _ _ (both .1))),
+    ))
     refl (λ _. refl) 1201 .0 refl d h
 
 pub carbon-capacity : Capacity carbonCapacity
@@ -45,6 +47,6 @@ carbon-capacity = record {
   most = λ d. tried (clamped d) (omega arith) .1;
   ends = record {
     cold = λ d h. let e : clamped d ≡ 20 = omega arith in ap heat e;
-    hot = λ d h. let e : clamped d ≡ 1200 = omega arith in ap heat e
-  }
+    hot = λ d h. let e : clamped d ≡ 1200 = omega arith in ap heat e;
+  };
 }

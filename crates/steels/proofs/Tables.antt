@@ -68,8 +68,8 @@ line-falls c p (q ∷ rows) d e ok low up =
     let falls = cell-falls c p q (ok .1) (ok .2) in
     by-test d (q .degree) (between c p q d) (line c q rows d) (λ v. line c p (q ∷ rows) e ≤ v)
     (λ under. by-test e (q .degree) (between c p q e) (line c q rows e) (λ v. v ≤ between c p q d)
-      (λ both. between-falls c p q (ok .0) falls d e low up (omega arith))
-      (λ past. le-trans (line-most c q rows e (ok .3) past) (above-second c p q (ok .0) falls d low (omega arith))))
+    (λ both. between-falls c p q (ok .0) falls d e low up (omega arith))
+    (λ past. le-trans (line-most c q rows e (ok .3) past) (above-second c p q (ok .0) falls d low (omega arith))))
     (λ over. rw (cond-false _ (between c p q e) (line c q rows e) (le-ltb e (q .degree) (le-trans over up))) (line-falls c q rows d e (ok .3) over up))
 
 within : (d : ℕ) → 20 ≤ clamped d
@@ -87,20 +87,20 @@ factor-law c (p ∷ rows) ok =
       falls = λ d e h. line-falls c p rows (clamped d) (clamped e) (ok .3) (low d) (clamped-rises d e h);
       ends = record {
         cold = λ d h. let e : clamped d ≡ 20 = omega arith in ap (line c p rows) e;
-        hot = λ d h. let e : clamped d ≡ 1200 = omega arith in ap (line c p rows) e
-      }
+        hot = λ d h. let e : clamped d ≡ 1200 = omega arith in ap (line c p rows) e;
+      };
     }
   where
     cell-most : (k : Column) → cell k p ≤ 10000
     cell-most Strength = ok .1
     cell-most Stiffness = ok .2
 
-ends-hot : (p : Row) (rows : List Row) → Behind p rows → p .degree ≤ 1200
+pub ends-hot : (p : Row) (rows : List Row) → Behind p rows → p .degree ≤ 1200
 ends-hot p [] ok = omega (arith, ok)
 ends-hot p (q ∷ rows) ok = omega (arith, ok .0, ends-hot q rows (ok .3))
 
 -- a row further on: what stands behind it, and that its degree is higher
-further : (b : Row) (bs : List Row) (p : Row) (rows : List Row) → Behind b (bs ++ (p ∷ rows)) → (b .degree < p .degree) × Behind p rows
+pub further : (b : Row) (bs : List Row) (p : Row) (rows : List Row) → Behind b (bs ++ (p ∷ rows)) → (b .degree < p .degree) × Behind p rows
 further b [] p rows ok = (ok .0, ok .3)
 further b (r ∷ bs) p rows ok = let h = further r bs p rows (ok .3) in (omega (arith, ok .0, h .0), h .1)
 

@@ -13,19 +13,71 @@ use crate::table::clamp;
 use crate::table::factor_at;
 
 const ROWS: [Row; 13] = [
-    Row { degree: 20, strength: 10_000, stiffness: 10_000 },
-    Row { degree: 100, strength: 10_000, stiffness: 10_000 },
-    Row { degree: 200, strength: 10_000, stiffness: 9000 },
-    Row { degree: 300, strength: 10_000, stiffness: 8000 },
-    Row { degree: 400, strength: 10_000, stiffness: 7000 },
-    Row { degree: 500, strength: 7800, stiffness: 6000 },
-    Row { degree: 600, strength: 4700, stiffness: 3100 },
-    Row { degree: 700, strength: 2300, stiffness: 1300 },
-    Row { degree: 800, strength: 1100, stiffness: 900 },
-    Row { degree: 900, strength: 600, stiffness: 675 },
-    Row { degree: 1000, strength: 400, stiffness: 450 },
-    Row { degree: 1100, strength: 200, stiffness: 225 },
-    Row { degree: 1200, strength: 0, stiffness: 0 },
+    Row {
+        degree: 20,
+        strength: 10_000,
+        stiffness: 10_000,
+    },
+    Row {
+        degree: 100,
+        strength: 10_000,
+        stiffness: 10_000,
+    },
+    Row {
+        degree: 200,
+        strength: 10_000,
+        stiffness: 9000,
+    },
+    Row {
+        degree: 300,
+        strength: 10_000,
+        stiffness: 8000,
+    },
+    Row {
+        degree: 400,
+        strength: 10_000,
+        stiffness: 7000,
+    },
+    Row {
+        degree: 500,
+        strength: 7800,
+        stiffness: 6000,
+    },
+    Row {
+        degree: 600,
+        strength: 4700,
+        stiffness: 3100,
+    },
+    Row {
+        degree: 700,
+        strength: 2300,
+        stiffness: 1300,
+    },
+    Row {
+        degree: 800,
+        strength: 1100,
+        stiffness: 900,
+    },
+    Row {
+        degree: 900,
+        strength: 600,
+        stiffness: 675,
+    },
+    Row {
+        degree: 1000,
+        strength: 400,
+        stiffness: 450,
+    },
+    Row {
+        degree: 1100,
+        strength: 200,
+        stiffness: 225,
+    },
+    Row {
+        degree: 1200,
+        strength: 0,
+        stiffness: 0,
+    },
 ];
 
 #[derive(Clone, Copy)]

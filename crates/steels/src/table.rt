@@ -1,7 +1,7 @@
 // Tables of reduction factors, read by linear interpolation rounded down.
 ghost use mathlib.Core.List.{map};
 ghost use mathlib.Core.Path.{_≡_};
-ghost use Prim.Native.Nat.{_≤_, _<_};
+ghost use Prim.Native.Nat.{_/_, _≤_, _<_};
 ghost use Rattle.steels.specs.Table.{Sound, between, cell, clamped, line, tabled};
 ghost use Rattle.steels.specs.declared.table.Row.{Row};
 
@@ -54,7 +54,14 @@ fn interpolated(column: Column, from: Row, to: Row, degree: u32) -> u32
 {
     let cold = from.cell(column) as u64 * (to.degree - degree) as u64;
     let hot = to.cell(column) as u64 * (degree - from.degree) as u64;
-    ((cold + hot) / (to.degree - from.degree) as u64) as u32
+    whole_part(cold + hot, (to.degree - from.degree) as u64) as u32
+}
+
+fn whole_part(parts: u64, weight: u64) -> u64
+    requires { ⌜ 0 < weight ⌝ }
+    ensures { λ r. ⌜ r ≡ parts / weight ⌝ }
+{
+    parts / weight
 }
 
 // The broken line from the first row on.

@@ -13,10 +13,11 @@ returns-then-degree-to g c =
     ∙ c .loop-next .inv .1)
 
 pub loop-next-again : need.loop-next-again
-loop-next-again g c =
-    (omega arith,
-    goes (g .P·Tabled .row) (c .args .column) (c .loop-next .from) (c .args .rest .now) (c .loop-next .next-index) (c .next-item .result) (c .to-row-to .result) (c .args .degree) (c .loop-next-test .taken) (c .next-item .is) (c .to-row-to .ensures) (c .if-degree-to .left)
-    ∙ c .loop-next .inv .1)
+loop-next-again g c = (
+  omega arith,
+  goes (g .P·Tabled .row) (c .args .column) (c .loop-next .from) (c .args .rest .now) (c .loop-next .next-index) (c .next-item .result) (c .to-row-to .result) (c .args .degree) (c .loop-next-test .taken) (c .next-item .is) (c .to-row-to .ensures) (c .if-degree-to .left)
+      ∙ c .loop-next .inv .1,
+)
 
 pub returns : need.returns
 returns g c =
