@@ -1,0 +1,3 @@
+pub mod Refusals
+pub mod Members
+pub mod Check
