@@ -1,8 +1,9 @@
 -- The check of a member in whole numbers, and the degree up to which it passes (EN 1993-1-2, 4.2.3.1 to 4.2.3.3).
 use mathlib.Core.Path.{_≡_}
-use mathlib.Core.Bool.{Bool, true, false, cond, _&&_}
+use mathlib.Core.Bool.{Bool, true, false, cond, _&&_, _||_}
 use Prim.Native.Nat.{ℕ, suc, zero, _+_, _-_, _*_, _≤_, _<_}
-use lib.Dec.{leb}
+use lib.Dec.{leb, ltb}
+use Rattle.std.specs.Options.{valueOr}
 use Rattle.std.specs.declared.option.Option.{Option}
 use Rattle.std.specs.declared.option.Option.the-variants.{Some, None}
 use Rattle.rounding.specs.Quotient.{ceil}
@@ -34,6 +35,10 @@ carries f load y z =
 -- the same for a steel, by its two factors, at a degree
 abbrev pub passesAt : Figures → (ℕ → ℕ) → (ℕ → ℕ) → ℕ → ℕ → Bool
 passesAt f y z load d = carries f load (y d) (z d)
+
+-- a load is above the cold strength, or above the ideal buckling load
+abbrev pub overloaded : Figures → ℕ → Bool
+overloaded f load = ltb (f .«cold_strength») load || ltb (valueOr (f .«buckling_load») load) load
 
 -- the greatest of the numbers from low on, `count` in all, at which a test passes; low - 1 if there is none
 unfoldable pub greatest : (ℕ → Bool) → ℕ → ℕ → ℕ

@@ -1,5 +1,6 @@
 // The member and its check: whether it carries a load at a degree, and up to which degree it does.
 mod checked;
+mod demand;
 mod input;
 mod standing;
 

@@ -1,11 +1,9 @@
 // Whether a member stands at a degree, for any steel, and the degree up to which it does.
 ghost use mathlib.Core.Path.{_≡_};
-ghost use mathlib.Core.Bool.{false};
-ghost use Prim.Native.Nat.{ℕ, _≤_};
-ghost use Rattle.std.specs.Options.{Cases};
 ghost use Rattle.check.specs.Members.{figuresOf};
-ghost use Rattle.check.specs.Check.{Critical, NoLower, PassesBelow, bucklingUse, carries, criticalOf, imperfectionOf, passesAt, rules, utilisation};
+ghost use Rattle.check.specs.Check.{Critical, NoLower, PassesBelow, criticalOf, passesAt};
 use crate::checked::Member;
+use crate::demand::Demand;
 use steels::Steel;
 
 // Whether the member carries the load in the steel at the degree.
@@ -13,9 +11,31 @@ pub fn passes<S: Steel>(member: &Member, steel: &S, load: u64, degree: u32) -> b
     ensures value { λ r. ⌜ r ≡ passesAt (figuresOf (now (member .entry))) (S·Steel .strength (now (steel .entry))) (S·Steel .stiffness (now (steel .entry))) load degree ⌝ }
     ensures below { λ _. ⌜ PassesBelow (figuresOf (now (member .entry))) ⌝ }
 {
-    false
+    match Demand::of(member, load) {
+        Some(demand) => demand.met_at(steel, degree),
+        None => false,
+    }
 }
 
-pub fn critical_temperature<S: Steel>(member: &Member, steel: &S, load: u64) -> u32 {
-    19
+// The greatest whole degree from 20 to 1,200 at which the member passes, 19 if there is none.
+// It halves the degrees left: once a member fails, it passes at no higher degree.
+pub fn critical_temperature<S: Steel>(member: &Member, steel: &S, load: u64) -> u32
+    ensures value { λ r. ⌜ r ≡ criticalOf (figuresOf (now (member .entry))) (S·Steel .strength (now (steel .entry))) (S·Steel .stiffness (now (steel .entry))) load ⌝ }
+    ensures parts { λ r. ⌜ Critical (figuresOf (now (member .entry))) (S·Steel .strength (now (steel .entry))) (S·Steel .stiffness (now (steel .entry))) load r ⌝ }
+    ensures grows { λ _. ⌜ NoLower (figuresOf (now (member .entry))) ⌝ }
+{
+    let Some(demand) = Demand::of(member, load) else {
+        return 19;
+    };
+    let mut low = 19;
+    let mut high = 1_201;
+    while high - low > 1 {
+        let middle = (low + high) / 2;
+        if demand.met_at(steel, middle) {
+            low = middle;
+        } else {
+            high = middle;
+        }
+    }
+    low
 }

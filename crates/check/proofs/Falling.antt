@@ -1,0 +1,106 @@
+-- Higher factors and a smaller load never make a member fail: the three rules, squared and without roots, are monotone.
+use mathlib.Core.Path.{_≡_, refl, sym, ap, subst}
+use mathlib.Core.Logic.{_⊎_, inl, inr, ⊎-elim}
+use mathlib.Core.Bool.{Bool, true, false, _&&_, not}
+use Prim.Native.Nat.{ℕ, zero, suc, _+_, _-_, _*_, _/_, _≤_, _<_, suc-le-suc}
+use native.Mathlib.Nat.{eq-zero-or-pos, mul-le-mul, mul-le-mul-left, mul-le-mul-right, le-of-mul-le-mul-right, le-trans, div-zero, div-mul-le-self, mul-pos}
+use native.Mathlib.Omega.{arith}
+use lib.Dec.{leb, ltb}
+use Rattle.std.specs.Options.{valueOr}
+use Rattle.std.specs.declared.option.Option.{Option}
+use Rattle.std.specs.declared.option.Option.the-variants.{Some, None}
+use Rattle.std.proofs.shelf.Bits.{div-below, le-div}
+use Rattle.std.proofs.shelf.Tests.{and-parts, and-from, leb-true, le-leb, lt-leb, and-left, and-right, or-cases, ltb-true, not-false}
+use Rattle.rounding.specs.Quotient.{ceil}
+use Rattle.steels.specs.Meaning.{Factor}
+use Rattle.check.specs.declared.input.Figures.{Figures}
+use Rattle.check.specs.Check.{utilisation, bucklingUse, imperfectionOf, overloaded, rules, carries, passesAt, PassesBelow}
+
+grown : (n u k : ℕ) → (n + u + k) * (u * u) ≤ (n + u) * ((u + k) * (u + k))
+grown n u k = omega arith
+
+-- with a utilisation n′ no greater and a factor y′ no lower, n · y / (y - n)² does not rise
+ratio : (n y n′ y′ : ℕ) → n ≤ y → n′ ≤ n → y ≤ y′ → (n′ * y′) * ((y - n) * (y - n)) ≤ (n * y) * ((y′ - n′) * (y′ - n′))
+ratio n y n′ y′ fits less more =
+    let u = y - n in
+    let k = y′ - n′ - u in
+    let wide : y′ * (u * u) ≤ (n + u + k) * (u * u) = mul-le-mul-right (u * u) (omega arith) in
+    let back : (n + u) * ((u + k) * (u + k)) ≤ y * ((y′ - n′) * (y′ - n′)) = mul-le-mul (omega arith) (mul-le-mul (omega arith) (omega arith)) in
+    omega (arith, mul-le-mul less (le-trans wide (le-trans (grown n u k) back)))
+
+-- two such ratios, multiplied into the third rule
+joined : (a n m u v n′ m′ u′ v′ : ℕ) → a * (n * m) ≤ 100 * (u * v) → n′ * u ≤ n * u′ → m′ * v ≤ m * v′ → 0 < n * m → a * (n′ * m′) ≤ 100 * (u′ * v′)
+joined a n m u v n′ m′ u′ v′ rule first second some =
+    le-of-mul-le-mul-right {k = n * m}
+    (omega (arith, mul-le-mul-right (n′ * m′) rule, mul-le-mul first second))
+    some
+
+module _ (a n m y z n′ m′ y′ z′ : ℕ) (n-less : n′ ≤ n) (m-less : m′ ≤ m) (y-more : y ≤ y′) (z-more : z ≤ z′) where
+  third : n ≤ y → m ≤ z → a * n * m * y * z ≤ 100 * ((y - n) * (y - n)) * ((z - m) * (z - m))
+      → a * n′ * m′ * y′ * z′ ≤ 100 * ((y′ - n′) * (y′ - n′)) * ((z′ - m′) * (z′ - m′))
+  third first second rule =
+      ⊎-elim (λ (e : n ≡ 0). let none : n′ ≡ 0 = omega arith in rw none (omega arith))
+      (λ (n-pos : 0 < n). ⊎-elim (λ (e : m ≡ 0). let none : m′ ≡ 0 = omega arith in rw none (omega arith))
+      (λ (m-pos : 0 < m). by-ratios (mul-pos (mul-pos n-pos (omega arith)) (mul-pos m-pos (omega arith)))) (eq-zero-or-pos m)) (eq-zero-or-pos n)
+    where
+      by-ratios : 0 < (n * y) * (m * z) → a * n′ * m′ * y′ * z′ ≤ 100 * ((y′ - n′) * (y′ - n′)) * ((z′ - m′) * (z′ - m′))
+      by-ratios some =
+          let u = y - n in let v = z - m in let u′ = y′ - n′ in let v′ = z′ - m′ in
+          let j = joined a (n * y) (m * z) (u * u) (v * v) (n′ * y′) (m′ * z′) (u′ * u′) (v′ * v′) (omega arith)
+          (ratio n y n′ y′ first n-less y-more) (ratio m z m′ z′ second m-less z-more) some in
+          omega (arith, j)
+
+  rules-kept : rules a n m y z ≡ true → rules a n′ m′ y′ z′ ≡ true
+  rules-kept h =
+      let p = and-parts (leb n y) _ h in
+      let q = and-parts (leb m z) _ (p .1) in
+      and-from _ _ (le-leb n′ y′ (omega (arith, leb-true n y (p .0))))
+      (and-from _ _ (le-leb m′ z′ (omega (arith, leb-true m z (q .0))))
+      (le-leb _ _ (third (leb-true n y (p .0)) (leb-true m z (q .0)) (leb-true _ _ (q .1)))))
+
+ceil-mono : (x y d : ℕ) → x ≤ y → ceil x d ≤ ceil y d
+ceil-mono x y d h =
+    ⊎-elim (λ e. rw e (omega (arith, div-zero (x + (0 - 1)), div-zero (y + (0 - 1)))))
+    (λ pos. le-div _ _ d pos (omega (arith, div-mul-le-self (x + (d - 1)) d))) (eq-zero-or-pos d)
+
+buckling-mono : (load load′ : ℕ) (k : Option ℕ) → load′ ≤ load → bucklingUse load′ k ≤ bucklingUse load k
+buckling-mono load load′ None h = omega arith
+buckling-mono load load′ (Some k) h = ceil-mono (10000 * load′) (10000 * load) k (omega arith)
+
+pub carries-kept : (f : Figures) (load load′ y y′ z z′ : ℕ) → load′ ≤ load → y ≤ y′ → z ≤ z′ → carries f load y z ≡ true → carries f load′ y′ z′ ≡ true
+carries-kept f load load′ y y′ z z′ less more-y more-z h =
+    rules-kept (imperfectionOf (f .«yield_strength»)) (utilisation load (f .«cold_strength»)) (bucklingUse load (f .«buckling_load»)) y z
+    (utilisation load′ (f .«cold_strength»)) (bucklingUse load′ (f .«buckling_load»)) y′ z′
+    (ceil-mono (10000 * load′) (10000 * load) (f .«cold_strength») (omega arith)) (buckling-mono load load′ (f .«buckling_load») less) more-y more-z h
+
+pub passes-below : (f : Figures) → PassesBelow f
+passes-below f y z y′ z′ load load′ d d′ fy fz better-y better-z less lower h =
+    carries-kept f load load′ (y d) (y′ d′) (z d) (z′ d′) less
+    (le-trans (fy .falls d′ d lower) (better-y d′)) (le-trans (fz .falls d′ d lower) (better-z d′)) h
+
+-- a load above a resistance uses more than the whole of it
+over : (load resistance : ℕ) → 0 < resistance → resistance < load → 10000 < utilisation load resistance
+over load resistance pos h = le-div 10001 _ resistance pos (omega arith)
+
+strength-over : (f : Figures) (load y z : ℕ) → y < utilisation load (f .«cold_strength») → carries f load y z ≡ false
+strength-over f load y z h = and-left _ _ (lt-leb _ y h)
+
+buckling-over : (f : Figures) (load y z : ℕ) → z < bucklingUse load (f .«buckling_load») → carries f load y z ≡ false
+buckling-over f load y z h = and-right (leb (utilisation load (f .«cold_strength»)) y) _ (and-left _ _ (lt-leb _ z h))
+
+over-buckling : (load : ℕ) (k : Option ℕ) → 0 < valueOr k 1 → ltb (valueOr k load) load ≡ true → 10000 < bucklingUse load k
+over-buckling load None pos h = omega (arith, ltb-true load load h)
+over-buckling load (Some k) pos h = over load k pos (ltb-true k load h)
+
+-- a load above the cold strength or the buckling load is carried at no degree
+pub overloaded-fails : (f : Figures) (y z : ℕ → ℕ) (load d : ℕ) → Factor y → Factor z → 0 < f .«cold_strength» → 0 < valueOr (f .«buckling_load») 1
+    → false ≡ not (overloaded f load) → passesAt f y z load d ≡ false
+overloaded-fails f y z load d fy fz s-pos k-pos h =
+    ⊎-elim (λ e. strength-over f load (y d) (z d) (le-trans (suc-le-suc (fy .most d)) (over load (f .«cold_strength») s-pos (ltb-true _ load e))))
+    (λ e. buckling-over f load (y d) (z d) (le-trans (suc-le-suc (fz .most d)) (over-buckling load (f .«buckling_load») k-pos e)))
+    (or-cases (ltb (f .«cold_strength») load) _ (not-false _ (sym h)))
+
+-- the rules at what a load was reckoned to ask are the rules of the member
+pub reckoned : (f : Figures) (load a n m y z : ℕ) → n ≡ utilisation load (f .«cold_strength») → m ≡ bucklingUse load (f .«buckling_load») → a ≡ imperfectionOf (f .«yield_strength»)
+    → rules a n m y z ≡ carries f load y z
+reckoned f load a n m y z en em ea = cc
