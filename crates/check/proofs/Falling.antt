@@ -1,9 +1,9 @@
 -- Higher factors and a smaller load never make a member fail: the three rules, squared and without roots, are monotone.
-use mathlib.Core.Path.{_≡_, refl, sym, ap, subst}
+use mathlib.Core.Path.{_≡_, refl, sym, _∙_}
 use mathlib.Core.Logic.{_⊎_, inl, inr, ⊎-elim}
 use mathlib.Core.Bool.{Bool, true, false, _&&_, not}
 use Prim.Native.Nat.{ℕ, zero, suc, _+_, _-_, _*_, _/_, _≤_, _<_, suc-le-suc}
-use native.Mathlib.Nat.{eq-zero-or-pos, mul-le-mul, mul-le-mul-left, mul-le-mul-right, le-of-mul-le-mul-right, le-trans, div-zero, div-mul-le-self, mul-pos}
+use native.Mathlib.Nat.{eq-zero-or-pos, mul-le-mul, mul-le-mul-left, mul-le-mul-right, le-of-mul-le-mul-right, le-trans, div-zero, div-mul-le-self, div-eq-of-lt, mul-pos}
 use native.Mathlib.Omega.{arith}
 use lib.Dec.{leb, ltb}
 use Rattle.std.specs.Options.{valueOr}
@@ -14,7 +14,7 @@ use Rattle.std.proofs.shelf.Tests.{and-parts, and-from, leb-true, le-leb, lt-le
 use Rattle.rounding.specs.Quotient.{ceil}
 use Rattle.steels.specs.Meaning.{Factor}
 use Rattle.check.specs.declared.input.Figures.{Figures}
-use Rattle.check.specs.Check.{utilisation, bucklingUse, imperfectionOf, overloaded, rules, carries, passesAt, PassesBelow}
+use Rattle.check.specs.Check.{utilisation, bucklingUse, imperfectionOf, overloaded, rules, carries, passesAt, PassesBelow, PassesUnloaded}
 
 grown : (n u k : ℕ) → (n + u + k) * (u * u) ≤ (n + u) * ((u + k) * (u + k))
 grown n u k = omega arith
@@ -78,6 +78,34 @@ passes-below f y z y′ z′ load load′ d d′ fy fz better-y better-z less lo
     carries-kept f load load′ (y d) (y′ d′) (z d) (z′ d′) less
     (le-trans (fy .falls d′ d lower) (better-y d′)) (le-trans (fz .falls d′ d lower) (better-z d′)) h
 
+no-load : (d : ℕ) → utilisation 0 d ≡ 0
+no-load d = ⊎-elim (λ e. rw e (div-zero (10000 * 0 + (0 - 1)))) (λ pos. div-eq-of-lt (omega arith)) (eq-zero-or-pos d)
+
+no-buckling : (k : Option ℕ) → bucklingUse 0 k ≡ 0
+no-buckling None = refl
+no-buckling (Some k) = no-load k
+
+-- the rules at what a load was reckoned to ask are the rules of the member
+pub reckoned : (f : Figures) (load a n m y z : ℕ) → n ≡ utilisation load (f .«cold_strength») → m ≡ bucklingUse load (f .«buckling_load») → a ≡ imperfectionOf (f .«yield_strength»)
+    → rules a n m y z ≡ carries f load y z
+reckoned f load a n m y z en em ea = cc
+
+idle : (a y z : ℕ) → rules a 0 0 y z ≡ true
+idle a y z =
+    and-from _ _ (le-leb 0 y (omega arith))
+    (and-from _ _ (le-leb 0 z (omega arith)) (le-leb (a * 0 * 0 * y * z) (100 * ((y - 0) * (y - 0)) * ((z - 0) * (z - 0))) (omega arith)))
+
+pub passes-unloaded : (f : Figures) → PassesUnloaded f
+passes-unloaded f y z d =
+    let a = imperfectionOf (f .«yield_strength») in
+    sym (reckoned f 0 a 0 0 (y d) (z d) (sym (no-load (f .«cold_strength»))) (sym (no-buckling (f .«buckling_load»))) refl) ∙ idle a (y d) (z d)
+
+-- a load up to a resistance uses no more than the whole of it
+pub under : (load resistance : ℕ) → load ≤ resistance → utilisation load resistance ≤ 10000
+under load resistance h =
+    ⊎-elim (λ (e : resistance ≡ 0). rw e (omega (arith, div-zero (10000 * load + (0 - 1)))))
+    (λ (pos : 0 < resistance). omega (arith, div-below (10000 * load + (resistance - 1)) resistance 10001 pos (omega arith))) (eq-zero-or-pos resistance)
+
 -- a load above a resistance uses more than the whole of it
 over : (load resistance : ℕ) → 0 < resistance → resistance < load → 10000 < utilisation load resistance
 over load resistance pos h = le-div 10001 _ resistance pos (omega arith)
@@ -99,8 +127,3 @@ overloaded-fails f y z load d fy fz s-pos k-pos h =
     ⊎-elim (λ e. strength-over f load (y d) (z d) (le-trans (suc-le-suc (fy .most d)) (over load (f .«cold_strength») s-pos (ltb-true _ load e))))
     (λ e. buckling-over f load (y d) (z d) (le-trans (suc-le-suc (fz .most d)) (over-buckling load (f .«buckling_load») k-pos e)))
     (or-cases (ltb (f .«cold_strength») load) _ (not-false _ (sym h)))
-
--- the rules at what a load was reckoned to ask are the rules of the member
-pub reckoned : (f : Figures) (load a n m y z : ℕ) → n ≡ utilisation load (f .«cold_strength») → m ≡ bucklingUse load (f .«buckling_load») → a ≡ imperfectionOf (f .«yield_strength»)
-    → rules a n m y z ≡ carries f load y z
-reckoned f load a n m y z en em ea = cc

@@ -70,6 +70,10 @@ PassesBelow f =
     (y z y′ z′ : ℕ → ℕ) (load load′ d d′ : ℕ) → Factor y → Factor z → NowhereLower y′ y → NowhereLower z′ z
     → load′ ≤ load → d′ ≤ d → passesAt f y z load d ≡ true → passesAt f y′ z′ load′ d′ ≡ true
 
+-- without load it passes at every degree, whatever is left of the steel
+abbrev pub PassesUnloaded : Figures → Type 0
+PassesUnloaded f = (y z : ℕ → ℕ) (d : ℕ) → passesAt f y z 0 d ≡ true
+
 -- with factors nowhere lower and a load no greater the critical temperature is no lower
 abbrev pub NoLower : Figures → Type 0
 NoLower f =

@@ -19,7 +19,9 @@ pub struct Demand {
     strength: u64,
     buckling: u64,
     imperfection: u64,
-    ghost slight: { imperfection ≤ 50 },
+    ghost strength_most: { strength ≤ 10000 },
+    ghost buckling_most: { buckling ≤ 10000 },
+    ghost imperfection_most: { imperfection ≤ 50 },
 }
 
 // n / d, rounded up.
@@ -33,7 +35,8 @@ fn quotient(n: u64, d: u64) -> u64
 // The load over a resistance; none if the load is greater, as it is then carried at no factor.
 fn share(load: u64, resistance: u64) -> Option<u64>
     requires { ⌜ resistance ≤ 1000000000 ⌝ }
-    ensures { λ r. ⌜ r ≡ cond (leb load resistance) (Some (utilisation load resistance)) None ⌝ }
+    ensures value { λ r. ⌜ r ≡ cond (leb load resistance) (Some (utilisation load resistance)) None ⌝ }
+    ensures most { λ r. ⌜ found r (λ n. n ≤ 10000) ⌝ }
 {
     if load <= resistance {
         Some(quotient(10_000 * load, resistance))
@@ -64,18 +67,16 @@ impl Demand {
         })
     }
 
-    // Rules 1 and 2 come first: they keep the products of the third below 10^18.
+    // The first two rules are that both differences exist.
     fn met(&self, strength: u32, stiffness: u32) -> bool
         requires { ⌜ strength ≤ 10000 ⌝ ∗ ⌜ stiffness ≤ 10000 ⌝ }
         ensures { λ r. ⌜ r ≡ rules (now (self .entry) .imperfection) (now (self .entry) .strength) (now (self .entry) .buckling) strength stiffness ⌝ }
     {
         let y = u64::from(strength);
         let z = u64::from(stiffness);
-        if y < self.strength || z < self.buckling {
+        let (Some(u), Some(v)) = (y.checked_sub(self.strength), z.checked_sub(self.buckling)) else {
             return false;
-        }
-        let u = y - self.strength;
-        let v = z - self.buckling;
+        };
         self.imperfection * self.strength * self.buckling * y * z <= 100 * (u * u) * (v * v)
     }
 

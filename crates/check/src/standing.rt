@@ -1,7 +1,7 @@
 // Whether a member stands at a degree, for any steel, and the degree up to which it does.
 ghost use mathlib.Core.Path.{_≡_};
 ghost use Rattle.check.specs.Members.{figuresOf};
-ghost use Rattle.check.specs.Check.{Critical, NoLower, PassesBelow, criticalOf, passesAt};
+ghost use Rattle.check.specs.Check.{Critical, NoLower, PassesBelow, PassesUnloaded, criticalOf, passesAt};
 use crate::checked::Member;
 use crate::demand::Demand;
 use steels::Steel;
@@ -10,6 +10,7 @@ use steels::Steel;
 pub fn passes<S: Steel>(member: &Member, steel: &S, load: u64, degree: u32) -> bool
     ensures value { λ r. ⌜ r ≡ passesAt (figuresOf (now (member .entry))) (S·Steel .strength (now (steel .entry))) (S·Steel .stiffness (now (steel .entry))) load degree ⌝ }
     ensures below { λ _. ⌜ PassesBelow (figuresOf (now (member .entry))) ⌝ }
+    ensures unloaded { λ _. ⌜ PassesUnloaded (figuresOf (now (member .entry))) ⌝ }
 {
     match Demand::of(member, load) {
         Some(demand) => demand.met_at(steel, degree),
