@@ -16,7 +16,7 @@ use Rattle.check.specs.Refusals.{numberOf}
 
 -- the figures that a member was made from
 abbrev pub figuresOf : Member → Figures
-figuresOf m = m .figures
+figuresOf m = m .given
 
 -- x is from low to high
 abbrev pub inRange : ℕ → ℕ → ℕ → Bool

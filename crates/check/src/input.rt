@@ -13,7 +13,7 @@ pub struct Figures {
 }
 
 // The figure that is out of its range. `ColdStrength` stands for the ideal buckling load too.
-#[derive(Clone, Copy)]
+#[derive(Clone, Copy, Debug)]
 pub enum Refusal {
     SectionFactor,
     Seconds,

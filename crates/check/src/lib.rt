@@ -3,6 +3,8 @@ mod checked;
 mod demand;
 mod input;
 mod standing;
+#[cfg(test)]
+mod tests;
 
 pub use checked::Member;
 pub use input::Figures;

@@ -33,26 +33,26 @@ impl Member {
         {
             return Err(Refusal::ColdStrength);
         }
-        Ok(Member { figures })
+        Ok(Member { given: figures })
     }
 
     pub fn figures(&self) -> Figures
         ensures { λ r. ⌜ r ≡ figuresOf (now (self .entry)) ⌝ }
     {
-        self.figures
+        self.given
     }
 
     pub fn section_factor(&self) -> u64
         ensures value { λ r. ⌜ r ≡ figuresOf (now (self .entry)) .«section_factor» ⌝ }
         ensures range { λ r. ⌜ (10 ≤ r) × (r ≤ 500) ⌝ }
     {
-        self.figures.section_factor
+        self.figures().section_factor
     }
 
     pub fn seconds(&self) -> u64
         ensures value { λ r. ⌜ r ≡ figuresOf (now (self .entry)) .seconds ⌝ }
         ensures range { λ r. ⌜ (1 ≤ r) × (r ≤ 5) ⌝ }
     {
-        self.figures.seconds
+        self.figures().seconds
     }
 }
