@@ -14,7 +14,7 @@ use Rattle.std.proofs.shelf.Tests.{and-parts, and-from, leb-true, le-leb, lt-le
 use Rattle.rounding.specs.Quotient.{ceil}
 use Rattle.steels.specs.Meaning.{Factor}
 use Rattle.check.specs.declared.input.Figures.{Figures}
-use Rattle.check.specs.Check.{utilisation, bucklingUse, imperfectionOf, overloaded, rules, carries, passesAt, PassesBelow, PassesUnloaded}
+use Rattle.check.specs.Check.{utilisation, bucklingUse, imperfectionOf, rules, carries, passesAt, PassesBelow, PassesUnloaded}
 
 grown : (n u k : ℕ) → (n + u + k) * (u * u) ≤ (n + u) * ((u + k) * (u + k))
 grown n u k = omega arith
@@ -73,7 +73,7 @@ carries-kept f load load′ y y′ z z′ less more-y more-z h =
     (utilisation load′ (f .«cold_strength»)) (bucklingUse load′ (f .«buckling_load»)) y′ z′
     (ceil-mono (10000 * load′) (10000 * load) (f .«cold_strength») (omega arith)) (buckling-mono load load′ (f .«buckling_load») less) more-y more-z h
 
-pub passes-below : (f : Figures) → PassesBelow f
+pub passes-below : PassesBelow
 passes-below f y z y′ z′ load load′ d d′ fy fz better-y better-z less lower h =
     carries-kept f load load′ (y d) (y′ d′) (z d) (z′ d′) less
     (le-trans (fy .falls d′ d lower) (better-y d′)) (le-trans (fz .falls d′ d lower) (better-z d′)) h
@@ -85,45 +85,13 @@ no-buckling : (k : Option ℕ) → bucklingUse 0 k ≡ 0
 no-buckling None = refl
 no-buckling (Some k) = no-load k
 
--- the rules at what a load was reckoned to ask are the rules of the member
-pub reckoned : (f : Figures) (load a n m y z : ℕ) → n ≡ utilisation load (f .«cold_strength») → m ≡ bucklingUse load (f .«buckling_load») → a ≡ imperfectionOf (f .«yield_strength»)
-    → rules a n m y z ≡ carries f load y z
-reckoned f load a n m y z en em ea = cc
-
 idle : (a y z : ℕ) → rules a 0 0 y z ≡ true
 idle a y z =
     and-from _ _ (le-leb 0 y (omega arith))
     (and-from _ _ (le-leb 0 z (omega arith)) (le-leb (a * 0 * 0 * y * z) (100 * ((y - 0) * (y - 0)) * ((z - 0) * (z - 0))) (omega arith)))
 
-pub passes-unloaded : (f : Figures) → PassesUnloaded f
+pub passes-unloaded : PassesUnloaded
 passes-unloaded f y z d =
     let a = imperfectionOf (f .«yield_strength») in
-    sym (reckoned f 0 a 0 0 (y d) (z d) (sym (no-load (f .«cold_strength»))) (sym (no-buckling (f .«buckling_load»))) refl) ∙ idle a (y d) (z d)
-
--- a load up to a resistance uses no more than the whole of it
-pub under : (load resistance : ℕ) → load ≤ resistance → utilisation load resistance ≤ 10000
-under load resistance h =
-    ⊎-elim (λ (e : resistance ≡ 0). rw e (omega (arith, div-zero (10000 * load + (0 - 1)))))
-    (λ (pos : 0 < resistance). omega (arith, div-below (10000 * load + (resistance - 1)) resistance 10001 pos (omega arith))) (eq-zero-or-pos resistance)
-
--- a load above a resistance uses more than the whole of it
-over : (load resistance : ℕ) → 0 < resistance → resistance < load → 10000 < utilisation load resistance
-over load resistance pos h = le-div 10001 _ resistance pos (omega arith)
-
-strength-over : (f : Figures) (load y z : ℕ) → y < utilisation load (f .«cold_strength») → carries f load y z ≡ false
-strength-over f load y z h = and-left _ _ (lt-leb _ y h)
-
-buckling-over : (f : Figures) (load y z : ℕ) → z < bucklingUse load (f .«buckling_load») → carries f load y z ≡ false
-buckling-over f load y z h = and-right (leb (utilisation load (f .«cold_strength»)) y) _ (and-left _ _ (lt-leb _ z h))
-
-over-buckling : (load : ℕ) (k : Option ℕ) → 0 < valueOr k 1 → ltb (valueOr k load) load ≡ true → 10000 < bucklingUse load k
-over-buckling load None pos h = omega (arith, ltb-true load load h)
-over-buckling load (Some k) pos h = over load k pos (ltb-true k load h)
-
--- a load above the cold strength or the buckling load is carried at no degree
-pub overloaded-fails : (f : Figures) (y z : ℕ → ℕ) (load d : ℕ) → Factor y → Factor z → 0 < f .«cold_strength» → 0 < valueOr (f .«buckling_load») 1
-    → false ≡ not (overloaded f load) → passesAt f y z load d ≡ false
-overloaded-fails f y z load d fy fz s-pos k-pos h =
-    ⊎-elim (λ e. strength-over f load (y d) (z d) (le-trans (suc-le-suc (fy .most d)) (over load (f .«cold_strength») s-pos (ltb-true _ load e))))
-    (λ e. buckling-over f load (y d) (z d) (le-trans (suc-le-suc (fz .most d)) (over-buckling load (f .«buckling_load») k-pos e)))
-    (or-cases (ltb (f .«cold_strength») load) _ (not-false _ (sym h)))
+    let same : carries f 0 (y d) (z d) ≡ rules a 0 0 (y d) (z d) = cc (no-load (f .«cold_strength»), no-buckling (f .«buckling_load»)) in
+    same ∙ idle a (y d) (z d)

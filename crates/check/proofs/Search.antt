@@ -2,7 +2,7 @@
 use mathlib.Core.Path.{_≡_, refl, sym, _∙_}
 use mathlib.Core.Logic.{⊎-elim}
 use mathlib.Core.Bool.{Bool, true, false, cond}
-use Prim.Native.Nat.{ℕ, zero, suc, _+_, _-_, _≤_, _<_}
+use Prim.Native.Nat.{ℕ, zero, suc, _+_, _-_, _/_, _≤_, _<_}
 use native.Mathlib.Nat.{le-trans, le-refl}
 use native.Mathlib.Omega.{arith}
 use lib.Dec.{lit<, lit≤}
@@ -29,22 +29,23 @@ module _ (p : ℕ → Bool) (fades : Fades p) where
   fails-above : (d e : ℕ) → d ≤ e → p d ≡ false → p e ≡ false
   fails-above d e h fails = ⊎-elim (λ passes. absurd (both-ways (p d) fails (fades d e h passes))) (λ x. x) (cases-bool (p e))
 
-  pub raised : (first top low high middle : ℕ) → Narrowed p first top low high → low < middle → middle < high → p middle ≡ true → Narrowed p first top middle high
-  raised first top low high middle h l u passes = record {
+  -- the number in the middle of what is left moves one end
+  pub raised : (first top low high : ℕ) → Narrowed p first top low high → 1 < high - low → p ((low + high) / 2) ≡ true → Narrowed p first top ((low + high) / 2) high
+  raised first top low high h wide passes = record {
     least = omega (arith, h .least);
-    apart = u;
+    apart = omega arith;
     most = h .most;
-    below = λ d _ le. fades d middle le passes;
+    below = λ d _ le. fades d ((low + high) / 2) le passes;
     above = h .above;
   }
 
-  pub lowered : (first top low high middle : ℕ) → Narrowed p first top low high → low < middle → middle < high → p middle ≡ false → Narrowed p first top low middle
-  lowered first top low high middle h l u fails = record {
+  pub lowered : (first top low high : ℕ) → Narrowed p first top low high → 1 < high - low → p ((low + high) / 2) ≡ false → Narrowed p first top low ((low + high) / 2)
+  lowered first top low high h wide fails = record {
     least = h .least;
-    apart = l;
+    apart = omega arith;
     most = omega (arith, h .most);
     below = h .below;
-    above = λ d le _. fails-above middle d le fails;
+    above = λ d le _. fails-above ((low + high) / 2) d le fails;
   }
 
   -- the two sides of c settle it
@@ -63,10 +64,6 @@ narrowed p first top low high h near = record {
   below = h .below;
   above = λ d l u. h .above d (omega (arith, h .apart)) u;
 }
-
-pub last-none : (p : ℕ → Bool) (first top low : ℕ) → first ≡ low + 1 → low ≤ top → ((d : ℕ) → p d ≡ false) → Last p first top low
-last-none p first top low e some fails = record
-    { least = omega arith; most = some; below = λ d l u. absurd (omega arith); above = λ d _ _. fails d }
 
 -- from `count` numbers, the greatest that passes is the one that parts them
 greatest-parts : (p : ℕ → Bool) (first count c : ℕ) → 0 < first → first ≤ c + 1 → c < first + count
@@ -118,7 +115,7 @@ module _ (f : Figures) (y z : ℕ → ℕ) (load : ℕ) (fy : Factor y) (fz : Fa
   critical-at c least most passes fails =
       critical-parts f y z load c (last-at (passesAt f y z load) passes-fades 20 1200 c least most passes fails)
 
-pub no-lower : (f : Figures) → NoLower f
+pub no-lower : NoLower
 no-lower f y z y′ z′ load load′ better-y better-z less =
     greatest-grows (passesAt f y z load) (passesAt f y′ z′ load′)
     (λ d. carries-kept f load load′ (y d) (y′ d) (z d) (z′ d) less (better-y d) (better-z d)) 20 1181 (lit< tt)

@@ -1,9 +1,8 @@
 -- The check of a member in whole numbers, and the degree up to which it passes (EN 1993-1-2, 4.2.3.1 to 4.2.3.3).
 use mathlib.Core.Path.{_≡_}
-use mathlib.Core.Bool.{Bool, true, false, cond, _&&_, _||_}
+use mathlib.Core.Bool.{Bool, true, false, cond, _&&_}
 use Prim.Native.Nat.{ℕ, suc, zero, _+_, _-_, _*_, _≤_, _<_}
-use lib.Dec.{leb, ltb}
-use Rattle.std.specs.Options.{valueOr}
+use lib.Dec.{leb}
 use Rattle.std.specs.declared.option.Option.{Option}
 use Rattle.std.specs.declared.option.Option.the-variants.{Some, None}
 use Rattle.rounding.specs.Quotient.{ceil}
@@ -36,10 +35,6 @@ carries f load y z =
 abbrev pub passesAt : Figures → (ℕ → ℕ) → (ℕ → ℕ) → ℕ → ℕ → Bool
 passesAt f y z load d = carries f load (y d) (z d)
 
--- a load is above the cold strength, or above the ideal buckling load
-abbrev pub overloaded : Figures → ℕ → Bool
-overloaded f load = ltb (f .«cold_strength») load || ltb (valueOr (f .«buckling_load») load) load
-
 -- the greatest of the numbers from low on, `count` in all, at which a test passes; low - 1 if there is none
 unfoldable pub greatest : (ℕ → Bool) → ℕ → ℕ → ℕ
 greatest p low zero = low - 1
@@ -65,17 +60,26 @@ abbrev pub NowhereLower : (ℕ → ℕ) → (ℕ → ℕ) → Type 0
 NowhereLower better f = (d : ℕ) → f d ≤ better d
 
 -- what passes at a degree passes at every lower one, with factors nowhere lower and a load no greater
-abbrev pub PassesBelow : Figures → Type 0
-PassesBelow f =
-    (y z y′ z′ : ℕ → ℕ) (load load′ d d′ : ℕ) → Factor y → Factor z → NowhereLower y′ y → NowhereLower z′ z
+abbrev pub PassesBelow : Type 0
+PassesBelow =
+    (f : Figures) (y z y′ z′ : ℕ → ℕ) (load load′ d d′ : ℕ) → Factor y → Factor z → NowhereLower y′ y → NowhereLower z′ z
     → load′ ≤ load → d′ ≤ d → passesAt f y z load d ≡ true → passesAt f y′ z′ load′ d′ ≡ true
 
--- without load it passes at every degree, whatever is left of the steel
-abbrev pub PassesUnloaded : Figures → Type 0
-PassesUnloaded f = (y z : ℕ → ℕ) (d : ℕ) → passesAt f y z 0 d ≡ true
+-- without load a member passes at every degree, whatever is left of the steel
+abbrev pub PassesUnloaded : Type 0
+PassesUnloaded = (f : Figures) (y z : ℕ → ℕ) (d : ℕ) → passesAt f y z 0 d ≡ true
 
 -- with factors nowhere lower and a load no greater the critical temperature is no lower
-abbrev pub NoLower : Figures → Type 0
-NoLower f =
-    (y z y′ z′ : ℕ → ℕ) (load load′ : ℕ) → NowhereLower y′ y → NowhereLower z′ z
+abbrev pub NoLower : Type 0
+NoLower =
+    (f : Figures) (y z y′ z′ : ℕ → ℕ) (load load′ : ℕ) → NowhereLower y′ y → NowhereLower z′ z
     → load′ ≤ load → criticalOf f y z load ≤ criticalOf f y′ z′ load′
+
+-- what a check keeps of a utilisation: 10,001, above every factor, if the load is above the resistance
+abbrev pub kept : ℕ → ℕ → ℕ
+kept load resistance = cond (leb load resistance) (utilisation load resistance) 10001
+
+-- the same over an ideal buckling load
+abbrev pub keptBuckling : ℕ → Option ℕ → ℕ
+keptBuckling load None = 0
+keptBuckling load (Some k) = kept load k

@@ -1,14 +1,9 @@
-// What a load asks of a member: reckoned once, and then held against the factors of any degree.
+// A member under a load: what the load asks of a steel's factors, reckoned once and then held against any degree.
 ghost use mathlib.Core.Path.{_≡_};
-ghost use mathlib.Core.Bool.{cond, not};
 ghost use Prim.Native.Nat.{_≤_};
-ghost use lib.Dec.{leb};
 ghost use Rattle.rounding.specs.Quotient.{ceil};
-ghost use Rattle.std.specs.Options.{isSome};
-ghost use Rattle.std.specs.Slices.{found};
-ghost use Rattle.std.specs.declared.option.Option.the-variants.{None, Some};
 ghost use Rattle.check.specs.Members.{figuresOf};
-ghost use Rattle.check.specs.Check.{bucklingUse, imperfectionOf, overloaded, rules, utilisation};
+ghost use Rattle.check.specs.Check.{PassesBelow, PassesUnloaded, imperfectionOf, kept, keptBuckling, passesAt, rules};
 use crate::checked::Member;
 use rounding::rounded_up;
 use steels::Steel;
@@ -16,12 +11,33 @@ use steels::Steel;
 // Both utilisations in ten-thousandths, and the squared imperfection factor in hundredths.
 #[derive(Clone, Copy)]
 pub struct Demand {
+    member: Member,
+    load: u64,
     strength: u64,
     buckling: u64,
     imperfection: u64,
+    ghost strength_is: { strength ≡ kept load (figuresOf member .«cold_strength») },
+    ghost buckling_is: { buckling ≡ keptBuckling load (figuresOf member .«buckling_load») },
+    ghost imperfection_is: { imperfection ≡ imperfectionOf (figuresOf member .«yield_strength») },
+}
+
+// The two factors of a steel at a degree, in ten-thousandths.
+#[derive(Clone, Copy)]
+struct Factors {
+    strength: u64,
+    stiffness: u64,
     ghost strength_most: { strength ≤ 10000 },
-    ghost buckling_most: { buckling ≤ 10000 },
-    ghost imperfection_most: { imperfection ≤ 50 },
+    ghost stiffness_most: { stiffness ≤ 10000 },
+}
+
+fn factors_at<S: Steel>(steel: &S, degree: u32) -> Factors
+    ensures strength { λ r. ⌜ r .strength ≡ S·Steel .strength (now (steel .entry)) degree ⌝ }
+    ensures stiffness { λ r. ⌜ r .stiffness ≡ S·Steel .stiffness (now (steel .entry)) degree ⌝ }
+{
+    Factors {
+        strength: u64::from(steel.strength_at(degree)),
+        stiffness: u64::from(steel.stiffness_at(degree)),
+    }
 }
 
 // n / d, rounded up.
@@ -32,58 +48,55 @@ fn quotient(n: u64, d: u64) -> u64
     rounded_up(n as i64, d) as u64
 }
 
-// The load over a resistance; none if the load is greater, as it is then carried at no factor.
-fn share(load: u64, resistance: u64) -> Option<u64>
+// The utilisation of a resistance. Above the resistance 10,000 times the load need not fit 64 bits, and no factor is enough.
+fn share(load: u64, resistance: u64) -> u64
     requires { ⌜ resistance ≤ 1000000000 ⌝ }
-    ensures value { λ r. ⌜ r ≡ cond (leb load resistance) (Some (utilisation load resistance)) None ⌝ }
-    ensures most { λ r. ⌜ found r (λ n. n ≤ 10000) ⌝ }
+    ensures { λ r. ⌜ r ≡ kept load resistance ⌝ }
 {
     if load <= resistance {
-        Some(quotient(10_000 * load, resistance))
+        quotient(10_000 * load, resistance)
     } else {
-        None
+        10_001
     }
 }
 
 impl Demand {
-    // None if the load is above the cold strength or the ideal buckling load.
-    pub fn of(member: &Member, load: u64) -> Option<Demand>
-        ensures test { λ r. ⌜ isSome r ≡ not (overloaded (figuresOf (now (member .entry))) load) ⌝ }
-        ensures strength { λ r. ⌜ found r (λ d. d .strength ≡ utilisation load (figuresOf (now (member .entry)) .«cold_strength»)) ⌝ }
-        ensures buckling { λ r. ⌜ found r (λ d. d .buckling ≡ bucklingUse load (figuresOf (now (member .entry)) .«buckling_load»)) ⌝ }
-        ensures imperfection { λ r. ⌜ found r (λ d. d .imperfection ≡ imperfectionOf (figuresOf (now (member .entry)) .«yield_strength»)) ⌝ }
+    pub fn of(member: &Member, load: u64) -> Demand
+        ensures member { λ r. ⌜ r .member ≡ now (member .entry) ⌝ }
+        ensures load { λ r. ⌜ r .load ≡ load ⌝ }
     {
         let figures = member.figures();
-        let strength = share(load, figures.cold_strength)?;
-        let buckling = match figures.buckling_load {
-            Some(buckling_load) => share(load, buckling_load)?,
-            None => 0,
-        };
-        let imperfection = quotient(39_715, 4 * figures.yield_strength);
-        Some(Demand {
-            strength,
-            buckling,
-            imperfection,
-        })
+        Demand {
+            member: *member,
+            load,
+            strength: share(load, figures.cold_strength),
+            buckling: match figures.buckling_load {
+                Some(buckling_load) => share(load, buckling_load),
+                None => 0,
+            },
+            imperfection: quotient(39_715, 4 * figures.yield_strength),
+        }
     }
 
-    // The first two rules are that both differences exist.
-    fn met(&self, strength: u32, stiffness: u32) -> bool
-        requires { ⌜ strength ≤ 10000 ⌝ ∗ ⌜ stiffness ≤ 10000 ⌝ }
-        ensures { λ r. ⌜ r ≡ rules (now (self .entry) .imperfection) (now (self .entry) .strength) (now (self .entry) .buckling) strength stiffness ⌝ }
+    // The three rules. Without the first two, differences below 0 would pass the third.
+    fn met(&self, factors: Factors) -> bool
+        ensures { λ r. ⌜ r ≡ rules (now (self .entry) .imperfection) (now (self .entry) .strength) (now (self .entry) .buckling) (factors .strength) (factors .stiffness) ⌝ }
     {
-        let y = u64::from(strength);
-        let z = u64::from(stiffness);
-        let (Some(u), Some(v)) = (y.checked_sub(self.strength), z.checked_sub(self.buckling)) else {
-            return false;
-        };
-        self.imperfection * self.strength * self.buckling * y * z <= 100 * (u * u) * (v * v)
+        let y = factors.strength;
+        let z = factors.stiffness;
+        let enough = self.strength <= y && self.buckling <= z;
+        let u = y.saturating_sub(self.strength);
+        let v = z.saturating_sub(self.buckling);
+        enough
+            && self.imperfection * self.strength * self.buckling * y * z <= 100 * (u * u) * (v * v)
     }
 
-    // Whether the steel's factors at the degree meet the demand.
-    pub fn met_at<S: Steel>(&self, steel: &S, degree: u32) -> bool
-        ensures { λ r. ⌜ r ≡ rules (now (self .entry) .imperfection) (now (self .entry) .strength) (now (self .entry) .buckling) (S·Steel .strength (now (steel .entry)) degree) (S·Steel .stiffness (now (steel .entry)) degree) ⌝ }
+    // Whether the member carries its load in the steel at the degree.
+    pub fn passes_at<S: Steel>(&self, steel: &S, degree: u32) -> bool
+        ensures value { λ r. ⌜ r ≡ passesAt (figuresOf (now (self .entry) .member)) (S·Steel .strength (now (steel .entry))) (S·Steel .stiffness (now (steel .entry))) (now (self .entry) .load) degree ⌝ }
+        ensures below { λ _. ⌜ PassesBelow ⌝ }
+        ensures unloaded { λ _. ⌜ PassesUnloaded ⌝ }
     {
-        self.met(steel.strength_at(degree), steel.stiffness_at(degree))
+        self.met(factors_at(steel, degree))
     }
 }

@@ -9,13 +9,10 @@ use steels::Steel;
 // Whether the member carries the load in the steel at the degree.
 pub fn passes<S: Steel>(member: &Member, steel: &S, load: u64, degree: u32) -> bool
     ensures value { λ r. ⌜ r ≡ passesAt (figuresOf (now (member .entry))) (S·Steel .strength (now (steel .entry))) (S·Steel .stiffness (now (steel .entry))) load degree ⌝ }
-    ensures below { λ _. ⌜ PassesBelow (figuresOf (now (member .entry))) ⌝ }
-    ensures unloaded { λ _. ⌜ PassesUnloaded (figuresOf (now (member .entry))) ⌝ }
+    ensures below { λ _. ⌜ PassesBelow ⌝ }
+    ensures unloaded { λ _. ⌜ PassesUnloaded ⌝ }
 {
-    match Demand::of(member, load) {
-        Some(demand) => demand.met_at(steel, degree),
-        None => false,
-    }
+    Demand::of(member, load).passes_at(steel, degree)
 }
 
 // The greatest whole degree from 20 to 1,200 at which the member passes, 19 if there is none.
@@ -23,16 +20,14 @@ pub fn passes<S: Steel>(member: &Member, steel: &S, load: u64, degree: u32) -> b
 pub fn critical_temperature<S: Steel>(member: &Member, steel: &S, load: u64) -> u32
     ensures value { λ r. ⌜ r ≡ criticalOf (figuresOf (now (member .entry))) (S·Steel .strength (now (steel .entry))) (S·Steel .stiffness (now (steel .entry))) load ⌝ }
     ensures parts { λ r. ⌜ Critical (figuresOf (now (member .entry))) (S·Steel .strength (now (steel .entry))) (S·Steel .stiffness (now (steel .entry))) load r ⌝ }
-    ensures grows { λ _. ⌜ NoLower (figuresOf (now (member .entry))) ⌝ }
+    ensures grows { λ _. ⌜ NoLower ⌝ }
 {
-    let Some(demand) = Demand::of(member, load) else {
-        return 19;
-    };
+    let demand = Demand::of(member, load);
     let mut low = 19;
     let mut high = 1_201;
     while high - low > 1 {
         let middle = (low + high) / 2;
-        if demand.met_at(steel, middle) {
+        if demand.passes_at(steel, middle) {
             low = middle;
         } else {
             high = middle;

@@ -1,23 +1,27 @@
 use Prim.Native.Nat.{_≤_, _*_}
 use native.Mathlib.Nat.{mul-le-mul}
 use native.Mathlib.Omega.{arith}
-use Rattle.std.proofs.shelf.Bits.{mul-le}
+use Rattle.check.specs.Members.{figuresOf}
+use Rattle.check.proofs.Kept.{imperfection-most, kept-most, kept-buckling-most}
 use Rattle.check.proofs.demand.Demand.met.Needs as need
 
-asked : (c : need.In-Some-Some) → c .args .self .now .imperfection * c .args .self .now .strength * c .args .self .now .buckling * c .from-y .result ≤ 50000000000000
+asked : (c : need.Then-enough) → c .args .self .now .imperfection * c .args .self .now .strength * c .args .self .now .buckling * c .args .factors .strength ≤ 50010000500000
 asked c =
-    mul-le _ _ 5000000000 10000 (mul-le _ _ 500000 10000 (mul-le _ _ 50 10000 (omega arith) (omega arith)) (omega arith)) (omega arith)
+    let d = c .args .self .now in
+    let f = figuresOf (d .member) in
+    let a : d .imperfection ≤ 50 = omega (arith, imperfection-most (f .«yield_strength») (omega arith)) in
+    let n : d .strength ≤ 10001 = omega (arith, kept-most (d .load) (f .«cold_strength»)) in
+    let m : d .buckling ≤ 10001 = omega (arith, kept-buckling-most (d .load) (f .«buckling_load»)) in
+    omega (arith, mul-le-mul (mul-le-mul (mul-le-mul a n) m) (c .args .factors .«strength_most»))
 
-pub mul-result-3 : need.mul-result-3
-mul-result-3 c = omega (arith, asked c)
+pub mul-result-then-enough-2 : need.mul-result-then-enough-2
+mul-result-then-enough-2 c = omega (arith, asked c)
 
-pub mul-result-4 : need.mul-result-4
-mul-result-4 c =
-    let z : c .from-z .result ≤ 10000 = omega arith in
-    omega (arith, mul-le-mul (asked c) z)
+pub mul-result-then-enough-3 : need.mul-result-then-enough-3
+mul-result-then-enough-3 c = omega (arith, mul-le-mul (asked c) (c .args .factors .«stiffness_most»))
 
-pub mul-result-8 : need.mul-result-8
-mul-result-8 c =
-    let u : c .in-Some-Some .u ≤ 10000 = omega (arith, c .in-Some-Some .ensures tt) in
-    let v : c .in-Some-Some .v ≤ 10000 = omega (arith, c .in-Some-Some .ensures′ tt) in
+pub mul-result-then-enough-7 : need.mul-result-then-enough-7
+mul-result-then-enough-7 c =
+    let u : c .saturating-sub-u .result ≤ 10000 = omega arith in
+    let v : c .saturating-sub-v .result ≤ 10000 = omega arith in
     omega (arith, mul-le-mul (mul-le-mul u u) (mul-le-mul v v))
