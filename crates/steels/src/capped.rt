@@ -1,16 +1,22 @@
-// A steel that carries nothing from a cap degree on.
-ghost use mathlib.Core.Bool.{cond};
+// A steel that carries nothing from a cap degree on, over any steel.
 ghost use mathlib.Core.Path.{_≡_};
-ghost use Prim.Native.Nat.{_≤_};
-ghost use lib.Dec.{ltb};
+ghost use Rattle.std.specs.Vec.{made};
+ghost use Rattle.steels.specs.Capped.{capDegree, capFault, capOf, cappedFactor, steelBelow};
+ghost use Rattle.steels.specs.Refusal.{refusal};
+use crate::cap::Cap;
 use crate::meaning::Steel;
+use crate::refusal::Refusal;
 
-// A cap degree from 21 to 1,200.
-#[derive(Clone, Copy)]
-pub struct Cap {
-    degree: u32,
-    ghost least: { 21 ≤ degree },
-    ghost most: { degree ≤ 1200 },
+impl Cap {
+    pub fn new(degree: u32) -> Result<Cap, Refusal>
+        ensures refused { λ r. ⌜ refusal r ≡ capFault degree ⌝ }
+        ensures taken { λ r. ⌜ made r (λ cap. capDegree cap ≡ degree) ⌝ }
+    {
+        if degree < 21 || degree > 1200 {
+            return Err(Refusal::CapDegree);
+        }
+        Ok(Cap { degree })
+    }
 }
 
 #[derive(Drop)]
@@ -19,10 +25,19 @@ pub struct Capped<S> {
     cap: Cap,
 }
 
-pub impl<S: Steel> Steel for Capped<S> as CappedSteel {
-    ghost strength = { λ s d. cond (ltb d (s .cap .degree)) (S·Steel .strength (s .below) d) 0 };
+impl<S> Capped<S> {
+    pub fn over(below: S, cap: Cap) -> Capped<S>
+        ensures steel { λ r. ⌜ steelBelow r ≡ below ⌝ }
+        ensures limit { λ r. ⌜ capOf r ≡ cap ⌝ }
+    {
+        Capped { below, cap }
+    }
+}
 
-    ghost stiffness = { λ s d. cond (ltb d (s .cap .degree)) (S·Steel .stiffness (s .below) d) 0 };
+pub impl<S: Steel> Steel for Capped<S> as CappedSteel {
+    ghost strength = { λ s. cappedFactor (s .cap .degree) (S·Steel .strength (s .below)) };
+
+    ghost stiffness = { λ s. cappedFactor (s .cap .degree) (S·Steel .stiffness (s .below)) };
 
     ghost capacity = { λ s. S·Steel .capacity (s .below) };
 

@@ -1,0 +1,4 @@
+pub mod CarbonRules
+pub mod Lines
+pub mod Points
+pub mod Tables
