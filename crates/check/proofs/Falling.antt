@@ -1,20 +1,18 @@
 -- Higher factors and a smaller load never make a member fail: the three rules, squared and without roots, are monotone.
-use mathlib.Core.Path.{_≡_, refl, sym, _∙_}
-use mathlib.Core.Logic.{_⊎_, inl, inr, ⊎-elim}
-use mathlib.Core.Bool.{Bool, true, false, _&&_, not}
-use Prim.Native.Nat.{ℕ, zero, suc, _+_, _-_, _*_, _/_, _≤_, _<_, suc-le-suc}
-use native.Mathlib.Nat.{eq-zero-or-pos, mul-le-mul, mul-le-mul-left, mul-le-mul-right, le-of-mul-le-mul-right, le-trans, div-zero, div-mul-le-self, div-eq-of-lt, mul-pos}
+use mathlib.Core.Path.{_≡_, refl, _∙_}
+use mathlib.Core.Logic.{⊎-elim}
+use mathlib.Core.Bool.{true, not}
+use Prim.Native.Nat.{ℕ, _+_, _-_, _*_, _/_, _≤_, _<_}
+use native.Mathlib.Nat.{eq-zero-or-pos, mul-le-mul, mul-le-mul-right, le-of-mul-le-mul-right, le-trans, div-zero, div-mul-le-self, div-eq-of-lt, mul-pos}
 use native.Mathlib.Omega.{arith}
-use lib.Dec.{leb, ltb}
-use Rattle.std.specs.Options.{valueOr}
+use lib.Dec.{leb}
 use Rattle.std.specs.declared.option.Option.{Option}
 use Rattle.std.specs.declared.option.Option.the-variants.{Some, None}
-use Rattle.std.proofs.shelf.Bits.{div-below, le-div}
-use Rattle.std.proofs.shelf.Tests.{and-parts, and-from, leb-true, le-leb, lt-leb, and-left, and-right, or-cases, ltb-true, not-false}
+use Rattle.std.proofs.shelf.Bits.{le-div}
+use Rattle.std.proofs.shelf.Tests.{and-parts, and-from, leb-true, le-leb}
 use Rattle.rounding.specs.Quotient.{ceil}
-use Rattle.steels.specs.Meaning.{Factor}
 use Rattle.check.specs.declared.input.Figures.{Figures}
-use Rattle.check.specs.Check.{utilisation, bucklingUse, imperfectionOf, rules, carries, passesAt, PassesBelow, PassesUnloaded}
+use Rattle.check.specs.Check.{utilisation, bucklingUse, imperfectionOf, rules, carries, PassesBelow, PassesUnloaded}
 
 grown : (n u k : ℕ) → (n + u + k) * (u * u) ≤ (n + u) * ((u + k) * (u + k))
 grown n u k = omega arith

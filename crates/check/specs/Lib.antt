@@ -1,3 +1,3 @@
-pub mod Refusals
+pub mod Refusal
 pub mod Members
 pub mod Check

@@ -1,6 +1,7 @@
 -- Which figures make a member, and what a member's figures are.
 use mathlib.Core.Path.{_≡_}
 use mathlib.Core.Bool.{Bool, true, false, cond, not, _&&_}
+use mathlib.Core.List.{[]}
 use Prim.Native.Nat.{ℕ, _≤_}
 use lib.Dec.{leb}
 use Rattle.std.specs.Options.{valueOr}
@@ -12,7 +13,7 @@ use Rattle.check.specs.declared.input.Figures.{Figures}
 use Rattle.check.specs.declared.input.Refusal.{Refusal}
 use Rattle.check.specs.declared.input.Refusal.the-variants.{SectionFactor, Seconds, YieldStrength, ColdStrength}
 use Rattle.check.specs.declared.checked.Member.{Member}
-use Rattle.check.specs.Refusals.{numberOf}
+use Rattle.check.specs.Refusal.{Refused, refused}
 
 -- the figures that a member was made from
 abbrev pub figuresOf : Member → Figures
@@ -29,20 +30,15 @@ cause Seconds f = not (inRange 1 5 (f .seconds))
 cause YieldStrength f = not (inRange 200 500 (f .«yield_strength»))
 cause ColdStrength f = not (inRange 1 1000000000 (f .«cold_strength») && inRange 1 1000000000 (valueOr (f .«buckling_load») 1))
 
--- a member has the figures given and no cause holds; a refusal's cause holds, and none of a smaller number
+-- a member has the figures given, and no cause holds; the cause of a refusal holds, and none of a smaller number
 abbrev pub Judged : Figures → Result Member Refusal → Type 0
 Judged f (Ok m) = (figuresOf m ≡ f) × ((e : Refusal) → cause e f ≡ false)
-Judged f (Err e) = (cause e f ≡ true) × ((other : Refusal) → cause other f ≡ true → numberOf e ≤ numberOf other)
+Judged f (Err e) = (cause e f ≡ true) × ((other : Refusal) → cause other f ≡ true → refused e .0 ≤ refused other .0)
 
--- the refusal that figures meet, if any: that of the smallest number whose cause holds
-abbrev pub memberFault : Figures → Option Refusal
+-- the refusal that figures meet, if any
+abbrev pub memberFault : Figures → Option Refused
 memberFault f =
-    cond (cause SectionFactor f) (Some SectionFactor)
-    (cond (cause Seconds f) (Some Seconds)
-    (cond (cause YieldStrength f) (Some YieldStrength)
-    (cond (cause ColdStrength f) (Some ColdStrength) None)))
-
--- an answer to figures names their fault, or has the figures if there is none
-abbrev pub Named : Figures → Result Member Refusal → Type 0
-Named f (Ok m) = (memberFault f ≡ None) × (figuresOf m ≡ f)
-Named f (Err e) = memberFault f ≡ Some e
+    cond (cause SectionFactor f) (Some (1, []))
+    (cond (cause Seconds f) (Some (2, []))
+    (cond (cause YieldStrength f) (Some (3, []))
+    (cond (cause ColdStrength f) (Some (4, [])) None)))

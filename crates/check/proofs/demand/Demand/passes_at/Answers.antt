@@ -1,7 +1,6 @@
 use mathlib.Core.Path.{_∙_}
 use native.Mathlib.Omega.{arith}
 use Rattle.check.specs.Members.{figuresOf}
-use Rattle.check.specs.Check.{carries}
 use Rattle.check.proofs.Falling.{passes-below, passes-unloaded}
 use Rattle.check.proofs.Kept.{reckoned}
 use Rattle.check.proofs.demand.Demand.passes_at.Needs as need
