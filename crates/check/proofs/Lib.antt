@@ -1,0 +1,3 @@
+pub mod Falling
+pub mod Kept
+pub mod Search
