@@ -1,0 +1,3 @@
+pub mod Gauge
+pub mod Meaning
+pub mod Refusal
