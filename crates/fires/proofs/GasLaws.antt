@@ -22,9 +22,9 @@ use Rattle.fires.proofs.RoundedWithin.{Within, rounded-within}
 pub fourth-most : (d : ℕ) → d ≤ 1200 → (d + 273) ^ 4 ≤ 1473 ^ 4
 fourth-most d h = let l : d + 273 ≤ 1473 = omega arith in pow-le-pow-left l 4
 
--- what the code rounds, of two fourth powers
+-- the difference of two fourth powers, as the code has it
 pub powers-apart : (a b : ℤ) (m n : ℕ) → a ≡ pos m → b ≡ pos n → m ≤ 1473 ^ 4 → n ≤ 1473 ^ 4
-    → toZ w64 (ofZ w64 (pos 3969 *ℤ toZ w64 (ofZ w64 (toZ w64 (ofZ w64 a) -ℤ toZ w64 (ofZ w64 b))))) ≡ pos 3969 *ℤ (pos m -ℤ pos n)
+    → toZ w64 (ofZ w64 (toZ w64 (ofZ w64 a) -ℤ toZ w64 (ofZ w64 b))) ≡ pos m -ℤ pos n
 powers-apart a b m n p q h k = omega (arith, ints)
 
 -- the sum as the code has it, with r for the radiation

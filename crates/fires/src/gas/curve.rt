@@ -2,10 +2,12 @@
 ghost use mathlib.Core.List.{[]};
 ghost use mathlib.Core.Path.{_≡_};
 ghost use Prim.Native.Nat.{_+_, _^_};
-ghost use lib.IntN.{pos};
+ghost use lib.IntN.{negℤ, pos, _*ℤ_};
+ghost use lib.Signed.{_≤ℤ_};
 ghost use lib.ListN.{length};
 ghost use Rattle.std.specs.Options.{Cases as BySome};
-ghost use Rattle.fires.specs.Gas.{CurveRead, FirstOutside, GasDegree, GasDegrees, gasFlux, gasTells, temperaturesOf};
+ghost use Rattle.fires.specs.Gas.{CurveRead, FirstOutside, GasDegree, GasDegrees, gasFlux, gasTells, steelDegree, temperaturesOf};
+ghost use Rattle.rounding.specs.Quotient.{roundedUp};
 use crate::gas::GasCurve;
 use crate::meaning::Fire;
 use crate::meaning::Reading;
@@ -61,6 +63,14 @@ fn fourth_power(degree: u32) -> i64
     ((degree + 273) as u64).pow(4) as i64
 }
 
+// What a difference of fourth powers radiates, rounded up.
+fn radiation(powers: i64) -> i64
+    requires { ⌜ negℤ (pos (1473 ^ 4)) ≤ℤ powers ⌝ ∗ ⌜ powers ≤ℤ pos (1473 ^ 4) ⌝ }
+    ensures { λ r. ⌜ r ≡ roundedUp (pos 3969 *ℤ powers) 100_000_000_000 ⌝ }
+{
+    rounding::rounded_up(3969 * powers, 100_000_000_000)
+}
+
 // Convection and radiation together.
 fn net_flux(gas: u32, steel: u32) -> i32
     requires { ⌜ GasDegree gas ⌝ ∗ ⌜ GasDegree steel ⌝ }
@@ -68,7 +78,14 @@ fn net_flux(gas: u32, steel: u32) -> i32
 {
     let convection = 25 * (gas as i64 - steel as i64);
     let powers = fourth_power(gas) - fourth_power(steel);
-    (convection + rounding::rounded_up(3969 * powers, 100_000_000_000)) as i32
+    (convection + radiation(powers)) as i32
+}
+
+// The steel's whole degree, rounded down.
+fn steel_degree(temperature: u32) -> u32
+    ensures { λ r. ⌜ r ≡ steelDegree temperature ⌝ }
+{
+    temperature.clamp(20_000, 1_200_000) / 1000
 }
 
 pub impl Fire for GasCurve as GasFire {
@@ -84,7 +101,6 @@ pub impl Fire for GasCurve as GasFire {
         if step >= self.count {
             return Reading::Ended;
         }
-        let steel = temperature.clamp(20_000, 1_200_000) / 1000;
-        Reading::Flux(net_flux(self.store[step], steel))
+        Reading::Flux(net_flux(self.store[step], steel_degree(temperature)))
     }
 }

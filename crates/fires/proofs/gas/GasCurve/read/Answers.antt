@@ -1,6 +1,7 @@
 use mathlib.Core.Path.{refl}
 use mathlib.Core.Logic.{inl}
 use Prim.Native.Nat.{_≤_}
+use native.Mathlib.Omega.{arith}
 use Rattle.fires.proofs.Copied.{copied, copied-at}
 use Rattle.fires.proofs.gas.GasCurve.read.Needs as need
 
@@ -9,8 +10,8 @@ returns-then-temperatures-gt-MOST-STEPS c = ((4096, refl, inl (c .if-temperature
 
 pub ghost-self : need.ghost-self
 ghost-self c =
-    (c .if-temperatures-gt-MOST-STEPS .left, (copied-at _ _ _ (c .copy-from-slice .ensures .after) (λ g. 20 ≤ g) (λ k h. c .in-rest .ensures tt k h .0), (copied-at _ _ _ (c .copy-from-slice .ensures .after) (λ g. g ≤ 1200) (λ k h. c .in-rest .ensures tt k h .1), tt)))
+    (omega arith, (copied-at _ _ _ (c .copy-from-slice .ensures .after) (λ g. 20 ≤ g) (λ k h. c .in-rest .ensures tt k h .0), (copied-at _ _ _ (c .copy-from-slice .ensures .after) (λ g. g ≤ 1200) (λ k h. c .in-rest .ensures tt k h .1), tt)))
 
 pub returns : need.returns
 returns c =
-    (c .if-temperatures-gt-MOST-STEPS .left, c .in-rest .ensures tt, copied _ _ _ (c .copy-from-slice .ensures .after))
+    (omega arith, c .in-rest .ensures tt, copied _ _ _ (c .copy-from-slice .ensures .after))
