@@ -19,6 +19,7 @@ use Rattle.fires.specs.Meaning.{Answers, InRange}
 use Rattle.fires.specs.declared.meaning.Reading.the-variants.{Flux, Ended}
 use Rattle.fires.proofs.RoundedWithin.{Within, rounded-within}
 
+-- a fourth power is at most that of the hottest degree
 pub fourth-most : (d : ℕ) → d ≤ 1200 → (d + 273) ^ 4 ≤ 1473 ^ 4
 fourth-most d h = let l : d + 273 ≤ 1473 = omega arith in pow-le-pow-left l 4
 
@@ -34,7 +35,7 @@ pub flux-sum : (g s : ℕ) (r : ℤ) → g ≤ 1200 → s ≤ 1200 → Within 20
 flux-sum g s r h k w = omega (arith, ints)
 
 module _ (g s : ℕ) (gas : GasDegree g) (steel : GasDegree s) where
-  pub radiated : Within (200000 * 100_000_000_000) (pos 3969 *ℤ (pos ((g + 273) ^ 4) -ℤ pos ((s + 273) ^ 4)))
+  radiated : Within (200000 * 100_000_000_000) (pos 3969 *ℤ (pos ((g + 273) ^ 4) -ℤ pos ((s + 273) ^ 4)))
   radiated = omega (arith, ints, fourth-most g (gas .1), fourth-most s (steel .1))
 
   pub radiation-within : Within 200000 (roundedUp (pos 3969 *ℤ (pos ((g + 273) ^ 4) -ℤ pos ((s + 273) ^ 4))) 100_000_000_000)
@@ -43,7 +44,8 @@ module _ (g s : ℕ) (gas : GasDegree g) (steel : GasDegree s) where
   gas-range : InRange (Flux (gasFlux g s))
   gas-range = omega (arith, ints, radiation-within)
 
-pub steel-degree : (t : ℕ) → GasDegree (steelDegree t)
+-- the steel's degree lies in the same range as the gas
+steel-degree : (t : ℕ) → GasDegree (steelDegree t)
 steel-degree t = omega arith
 
 pub gas-answers : (gs : List ℕ) → GasDegrees gs → Answers (length gs) (gasTells gs)

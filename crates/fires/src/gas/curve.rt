@@ -63,7 +63,7 @@ fn fourth_power(degree: u32) -> i64
     ((degree + 273) as u64).pow(4) as i64
 }
 
-// What a difference of fourth powers radiates, rounded up.
+// What a difference of fourth powers radiates, rounded up. None is above that of 1,200 degrees.
 fn radiation(powers: i64) -> i64
     requires { ⌜ negℤ (pos (1473 ^ 4)) ≤ℤ powers ⌝ ∗ ⌜ powers ≤ℤ pos (1473 ^ 4) ⌝ }
     ensures { λ r. ⌜ r ≡ roundedUp (pos 3969 *ℤ powers) 100_000_000_000 ⌝ }

@@ -10,7 +10,9 @@ returns-then-temperatures-gt-MOST-STEPS c = ((4096, refl, inl (c .if-temperature
 
 pub ghost-self : need.ghost-self
 ghost-self c =
-    (omega arith, (copied-at _ _ _ (c .copy-from-slice .ensures .after) (λ g. 20 ≤ g) (λ k h. c .in-rest .ensures tt k h .0), (copied-at _ _ _ (c .copy-from-slice .ensures .after) (λ g. g ≤ 1200) (λ k h. c .in-rest .ensures tt k h .1), tt)))
+    let same = c .copy-from-slice .ensures .after in
+    let each = c .in-rest .ensures tt in
+    (omega arith, (copied-at _ _ _ same (λ g. 20 ≤ g) (λ k h. each k h .0), (copied-at _ _ _ same (λ g. g ≤ 1200) (λ k h. each k h .1), tt)))
 
 pub returns : need.returns
 returns c =

@@ -9,14 +9,16 @@ use Rattle.fires.proofs.RoundedWithin.{Within}
 use Rattle.fires.proofs.gas.curve.net_flux.Needs as need
 
 pub radiation-requires : need.radiation-requires
-radiation-requires c κs = omega (arith, ints, fourth-most (c .args .gas) (c .pre .0 .1), fourth-most (c .args .steel) (c .pre .1 .1))
+radiation-requires c κs =
+    omega (arith, ints, fourth-most (c .args .gas) (c .pre .0 .1), fourth-most (c .args .steel) (c .pre .1 .1))
 
 module _ (c : need.After-radiation) where
   radiated : c .radiation .result ≡ roundedUp (pos 3969 *ℤ (pos ((c .args .gas + 273) ^ 4) -ℤ pos ((c .args .steel + 273) ^ 4))) 100_000_000_000
   radiated =
       c .radiation .ensures
       ∙ ap (λ (z : ℤ). roundedUp (pos 3969 *ℤ z) 100_000_000_000)
-      (powers-apart _ _ _ _ (c .fourth-power .ensures) (c .fourth-power-2 .ensures) (fourth-most (c .args .gas) (c .pre .0 .1)) (fourth-most (c .args .steel) (c .pre .1 .1)))
+      (powers-apart _ _ _ _ (c .fourth-power .ensures) (c .fourth-power-2 .ensures)
+      (fourth-most (c .args .gas) (c .pre .0 .1)) (fourth-most (c .args .steel) (c .pre .1 .1)))
 
   within : Within 200000 (c .radiation .result)
   within = rw radiated (radiation-within (c .args .gas) (c .args .steel) (c .pre .0) (c .pre .1))

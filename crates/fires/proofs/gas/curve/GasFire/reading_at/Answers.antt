@@ -9,5 +9,6 @@ pub returns : need.returns
 returns c =
     let fits : SFits w32 (c .net-flux .result) = search needs in
     let same = toZ-ofZ w32 (c .net-flux .result) fits in
-    let place = gas-place (c .args .self .now .store) (c .args .self .now .count) (c .args .step) (c .args .temperature) (search needs) (c .if-step-self .left) in
+    let self = c .args .self .now in
+    let place = gas-place (self .store) (self .count) (c .args .step) (c .args .temperature) (search needs) (c .if-step-self .left) in
     cc

@@ -14,12 +14,15 @@ use Rattle.fires.proofs.shading.shaded.ShadedFire.reading_at.Needs as need
 
 pub mul-flux : need.mul-flux
 mul-flux g c =
-    let told = flux-told _ _ (g .F·Fire·met .answers (c .args .self .now .below)) (c .args .step) (c .args .temperature) (c .in-Flux .flux) (c .in-Flux .ensures tt) in
-    widened-fits (c .in-Flux .flux) (c .args .self .now .shading .thousandths) told (c .args .self .now .shading .most)
+    let answers = g .F·Fire·met .answers (c .args .self .now .below) in
+    let told = flux-told _ _ answers (c .args .step) (c .args .temperature) _ (c .in-Flux .ensures tt) in
+    widened-fits _ _ told (c .args .self .now .shading .most)
 
 module _ (g : Over) (c : need.After-rounded-up g) where
   told : Within 400000 (c .in-Flux .flux)
-  told = flux-told _ _ (g .F·Fire·met .answers (c .args .self .now .below)) (c .args .step) (c .args .temperature) (c .in-Flux .flux) (c .in-Flux .ensures tt)
+  told =
+      let answers = g .F·Fire·met .answers (c .args .self .now .below) in
+      flux-told _ _ answers (c .args .step) (c .args .temperature) _ (c .in-Flux .ensures tt)
 
   rounded : c .rounded-up .result ≡ roundedUp (c .in-Flux .flux *ℤ pos (c .args .self .now .shading .thousandths)) 1000
   rounded =
@@ -37,4 +40,5 @@ cast-result g c = omega (arith, ints, within g c)
 
 pub returns-in-Flux : need.returns-in-Flux
 returns-in-Flux g c =
-    ap Flux (narrowed g c ∙ rounded g c) ∙ ap (shadedReading (c .args .self .now .shading .thousandths)) (c .in-Flux .ensures tt)
+    ap Flux (narrowed g c ∙ rounded g c)
+    ∙ ap (shadedReading (c .args .self .now .shading .thousandths)) (c .in-Flux .ensures tt)
