@@ -1,0 +1,5 @@
+pub mod Copied
+pub mod GasLaws
+pub mod GaugeLaws
+pub mod RoundedWithin
+pub mod ShadedLaws

@@ -1,0 +1,11 @@
+-- What a refusal tells.
+use mathlib.Core.List.{List, [], _∷_}
+use Prim.Native.Nat.{ℕ}
+use Rattle.fires.specs.declared.refusal.Refusal.{Refusal}
+use Rattle.fires.specs.declared.refusal.Refusal.the-variants.{RecordLength, GasTemperature, Shading}
+
+-- the number of each refusal, and the values that go with it
+abbrev pub told : Refusal → ℕ × List ℕ
+told RecordLength = (8, [])
+told (GasTemperature k) = (9, k ∷ [])
+told Shading = (10, [])
