@@ -15,6 +15,12 @@ tie = Member(235, 1_000_000)
 strut = Member(235, 1_000_000, 2_000_000)
 class4 = CappedSteel(steel, 351)
 
+
+
+def shown(degree):
+    return "none" if degree < 20 else degree
+
+
 print("Critical temperatures in degrees Celsius, carbon steel, f = 235 MPa")
 print("(strut: ideal buckling load twice the cold strength; class 4: that strut, capped at 351)")
 print()
@@ -25,7 +31,7 @@ for i, tabled in enumerate(TABLE_4_1):
     load = hundredths * 10_000
     here = tie.critical(steel, load)
     differences.append(here - tabled)
-    print(f"{hundredths / 100:11.2f}  {tabled:9}  {here:4}  {here - tabled:+10}  {strut.critical(steel, load):5}  {strut.critical(class4, load):7}")
+    print(f"{hundredths / 100:11.2f}  {tabled:9}  {here:4}  {here - tabled:+10}  {shown(strut.critical(steel, load)):>5}  {shown(strut.critical(class4, load)):>7}")
 print()
 print(f"The tie lies from {-min(differences)} below to {max(differences)} above the table.")
 print()
