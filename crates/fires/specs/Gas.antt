@@ -10,7 +10,7 @@ use lib.ListN.{length, getD, take}
 use Rattle.std.specs.Results.{Cases}
 use Rattle.std.specs.declared.result.Result.{Result}
 use Rattle.rounding.specs.Quotient.{roundedUp}
-use Rattle.fires.specs.Refusal.{told}
+use Rattle.fires.specs.Refusal.{refused}
 use Rattle.fires.specs.declared.gas.GasCurve.{GasCurve}
 use Rattle.fires.specs.declared.meaning.Reading.{Reading}
 use Rattle.fires.specs.declared.meaning.Reading.the-variants.{Flux, Ended}
@@ -56,4 +56,4 @@ GasFault gs k = ((4096 < length gs) × (k ≡ 4096)) ⊎ ((length gs ≤ 4096) �
 abbrev pub CurveRead : List ℕ → GasCurve → GasCurve → Result Unit Refusal → Type 0
 CurveRead gs before after r =
     Cases r (λ _. (length gs ≤ 4096) × GasDegrees gs × (temperaturesOf after ≡ gs))
-    (λ e. ((k : ℕ) × (told e ≡ (9, k ∷ [])) × GasFault gs k) × (after ≡ before))
+    (λ e. ((k : ℕ) × (refused e ≡ (9, k ∷ [])) × GasFault gs k) × (after ≡ before))

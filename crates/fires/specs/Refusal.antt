@@ -5,7 +5,7 @@ use Rattle.fires.specs.declared.refusal.Refusal.{Refusal}
 use Rattle.fires.specs.declared.refusal.Refusal.the-variants.{RecordLength, GasTemperature, Shading}
 
 -- the number of each refusal, and the values that go with it
-abbrev pub told : Refusal → ℕ × List ℕ
-told RecordLength = (8, [])
-told (GasTemperature k) = (9, k ∷ [])
-told Shading = (10, [])
+abbrev pub refused : Refusal → ℕ × List ℕ
+refused RecordLength = (8, [])
+refused (GasTemperature k) = (9, k ∷ [])
+refused Shading = (10, [])

@@ -6,7 +6,7 @@ use lib.IntN.{pos, _*ℤ_}
 use Rattle.std.specs.Results.{Cases}
 use Rattle.std.specs.declared.result.Result.{Result}
 use Rattle.rounding.specs.Quotient.{roundedUp}
-use Rattle.fires.specs.Refusal.{told}
+use Rattle.fires.specs.Refusal.{refused}
 use Rattle.fires.specs.declared.meaning.Reading.{Reading}
 use Rattle.fires.specs.declared.meaning.Reading.the-variants.{Flux, Missing, Ended}
 use Rattle.fires.specs.declared.refusal.Refusal.{Refusal}
@@ -37,4 +37,4 @@ Shades m = (1 ≤ m) × (m ≤ 1000)
 
 -- a number is the shading's, or it shades nothing and is refused (10)
 abbrev pub ShadingMade : ℕ → Result Shading Refusal → Type 0
-ShadingMade m r = Cases r (λ s. Shades m × (thousandthsOf s ≡ m)) (λ e. (Shades m → ⊥) × (told e ≡ (10, [])))
+ShadingMade m r = Cases r (λ s. Shades m × (thousandthsOf s ≡ m)) (λ e. (Shades m → ⊥) × (refused e ≡ (10, [])))
