@@ -28,10 +28,11 @@ impl Member {
         if !within(figures.yield_strength, 200, 500) {
             return Err(Refusal::YieldStrength);
         }
-        let buckling_load = figures.buckling_load.unwrap_or(1);
-        if !within(figures.cold_strength, 1, 1_000_000_000)
-            || !within(buckling_load, 1, 1_000_000_000)
-        {
+        let buckling_fits = match figures.buckling_load {
+            Some(buckling_load) => within(buckling_load, 1, 1_000_000_000),
+            None => true,
+        };
+        if !within(figures.cold_strength, 1, 1_000_000_000) || !buckling_fits {
             return Err(Refusal::ColdStrength);
         }
         Ok(Member { given: figures })
