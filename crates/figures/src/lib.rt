@@ -1,4 +1,7 @@
 // Figures worked out by hand, shown of the rules themselves.
+#[cfg(test)]
+mod tests;
+
 ghost use mathlib.Core.Path.{_≡_};
 ghost use Rattle.figures.specs.Worked.{WorkedFigures};
 

@@ -42,17 +42,3 @@ fn times_begun(size: u64, d: u64) -> u64
 {
     size.div_ceil(d)
 }
-
-#[cfg(test)]
-mod tests {
-    use super::*;
-    use std::test::*;
-
-    #[test]
-    fn rounds_up_on_both_sides_of_zero() -> Result<(), Fail> {
-        check_eq(rounded_up(13_500, 1000), 14)?;
-        check_eq(rounded_up(-13_500, 1000), -13)?;
-        check_eq(rounded_up(i64::MIN, 1), i64::MIN)?;
-        check_eq(rounded_up(7, 0), 0)
-    }
-}

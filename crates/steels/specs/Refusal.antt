@@ -1,10 +1,6 @@
 -- What is refused here: the number of each refusal, and the values that go with it.
 use mathlib.Core.List.{List, [], _∷_}
 use Prim.Native.Nat.{ℕ}
-use Rattle.std.specs.declared.option.Option.{Option}
-use Rattle.std.specs.declared.option.Option.the-variants.{None, Some}
-use Rattle.std.specs.declared.result.Result.{Result}
-use Rattle.std.specs.declared.result.Result.the-variants.{Err, Ok}
 use Rattle.steels.specs.declared.refusal.Refusal.{Refusal}
 use Rattle.steels.specs.declared.refusal.Refusal.the-variants.{CapDegree, PointCount, PointDegree, PointFigure}
 
@@ -17,8 +13,3 @@ refused PointCount = (5, [])
 refused (PointDegree point) = (6, point ∷ [])
 refused (PointFigure point) = (7, point ∷ [])
 refused CapDegree = (10, [])
-
--- the refusal in an answer, if it is one
-abbrev pub refusal : {T : Type 0} → Result T Refusal → Option Refused
-refusal (Ok x) = None
-refusal (Err e) = Some (refused e)

@@ -1,15 +1,17 @@
 // A steel that carries nothing from a cap degree on, over any steel.
 ghost use mathlib.Core.Path.{_≡_};
+ghost use Rattle.std.specs.Options.{mapped};
+ghost use Rattle.std.specs.Results.{errPart};
 ghost use Rattle.std.specs.Vec.{made};
 ghost use Rattle.steels.specs.Capped.{capDegree, capFault, capOf, cappedFactor, steelBelow};
-ghost use Rattle.steels.specs.Refusal.{refusal};
+ghost use Rattle.steels.specs.Refusal.{refused};
 use crate::cap::Cap;
 use crate::meaning::Steel;
 use crate::refusal::Refusal;
 
 impl Cap {
     pub fn new(degree: u32) -> Result<Cap, Refusal>
-        ensures refused { λ r. ⌜ refusal r ≡ capFault degree ⌝ }
+        ensures refused { λ r. ⌜ mapped refused (errPart r) ≡ capFault degree ⌝ }
         ensures taken { λ r. ⌜ made r (λ cap. capDegree cap ≡ degree) ⌝ }
     {
         if degree < 21 || degree > 1200 {

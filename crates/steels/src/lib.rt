@@ -19,4 +19,6 @@ pub use mill::MillSheet;
 pub use point::Point;
 pub use reading::MillSheetSteel;
 pub use refusal::Refusal;
+pub use refusal::RefusalDebug;
+pub use refusal::RefusalPartialEq;
 pub use table::Row;

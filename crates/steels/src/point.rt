@@ -5,7 +5,7 @@ ghost use Rattle.steels.specs.Mill.{rowOf};
 use crate::table::Row;
 use crate::table::Tabled;
 
-#[derive(Clone, Copy, PartialEq, Eq, Debug)]
+#[derive(Clone, Copy)]
 pub struct Point {
     pub degree: u32,
     pub strength: u32,

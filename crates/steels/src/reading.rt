@@ -5,11 +5,11 @@ ghost use mathlib.Core.Path.{_≡_};
 ghost use Prim.Native.Nat.{_≤_};
 ghost use lib.ListN.{length, take};
 ghost use Rattle.std.specs.Options.{isSome, mapped};
-ghost use Rattle.std.specs.Results.{isOk};
+ghost use Rattle.std.specs.Results.{errPart, isOk};
 ghost use Rattle.std.specs.Vec.{made};
 ghost use Rattle.std.specs.declared.option.Option.the-variants.{None};
 ghost use Rattle.steels.specs.Mill.{Follows, capacityFrom, degreeFits, falls, firstPoints, inRange, pointFault, rowOf, sheetCapacity, sheetFactor, sheetFault};
-ghost use Rattle.steels.specs.Refusal.{refusal, refused};
+ghost use Rattle.steels.specs.Refusal.{refused};
 ghost use Rattle.steels.specs.Sheet.{pointsOf};
 ghost use Rattle.steels.specs.Table.{Sound};
 ghost use Rattle.steels.specs.declared.table.Column.the-variants.{Stiffness, Strength};
@@ -122,7 +122,7 @@ impl MillSheet {
 
     // Takes the points for those in hand, or refuses them and keeps those in hand.
     pub fn read(&mut self, points: &[Point]) -> Result<(), Refusal>
-        ensures refused { λ r. ⌜ refusal r ≡ sheetFault (now (points .entry)) ⌝ }
+        ensures refused { λ r. ⌜ mapped refused (errPart r) ≡ sheetFault (now (points .entry)) ⌝ }
         ensures taken { λ r. ⌜ made r (λ _. pointsOf (now (self .exit)) ≡ now (points .entry)) ⌝ }
         ensures meaning { λ r. ⌜ made r (λ _. Follows (now (points .entry))) ⌝ }
         ensures kept { λ r. ⌜ (isOk r ≡ false → now (self .exit) ≡ now (self .entry)) ⌝ }

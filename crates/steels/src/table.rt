@@ -6,7 +6,7 @@ ghost use Rattle.steels.specs.Table.{Sound, between, cell, clamped, line, tabl
 ghost use Rattle.steels.specs.declared.table.Row.{Row};
 
 // The two reduction factors at a degree, in ten-thousandths.
-#[derive(Clone, Copy, PartialEq, Eq, Debug)]
+#[derive(Clone, Copy)]
 pub struct Row {
     pub degree: u32,
     pub strength: u32,

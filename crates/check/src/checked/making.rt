@@ -1,7 +1,9 @@
 // Members made from figures, and read again.
 ghost use mathlib.Core.Path.{_≡_};
 ghost use Prim.Native.Nat.{_≤_};
-ghost use Rattle.check.specs.Refusal.{refusal};
+ghost use Rattle.std.specs.Options.{mapped};
+ghost use Rattle.std.specs.Results.{errPart};
+ghost use Rattle.check.specs.Refusal.{refused};
 ghost use Rattle.check.specs.Members.{Judged, figuresOf, inRange, memberFault};
 use crate::checked::Member;
 use crate::input::Figures;
@@ -16,7 +18,7 @@ fn within(x: u64, low: u64, high: u64) -> bool
 
 impl Member {
     pub fn new(figures: Figures) -> Result<Member, Refusal>
-        ensures fault { λ r. ⌜ refusal r ≡ memberFault figures ⌝ }
+        ensures fault { λ r. ⌜ mapped refused (errPart r) ≡ memberFault figures ⌝ }
         ensures judged { λ r. ⌜ Judged figures r ⌝ }
     {
         if !within(figures.section_factor, 10, 500) {
