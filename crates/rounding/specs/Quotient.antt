@@ -1,5 +1,5 @@
 -- A quotient of whole numbers, rounded up.
-use Prim.Native.Nat.{ℕ, suc, _+_, _/_, _-_}
+use Prim.Native.Nat.{ℕ, suc, _+_, _/_, _-_, _<_}
 use lib.IntN.{ℤ, pos, negsuc, negℤ, _*ℤ_}
 use lib.Signed.{_≤ℤ_}
 
@@ -16,3 +16,7 @@ ceil n d = (n + (d - 1)) / d
 abbrev pub roundedUp : ℤ → ℕ → ℤ
 roundedUp (pos n) d = pos (ceil n d)
 roundedUp (negsuc n) d = negℤ (pos (suc n / d))
+
+-- whatever is divided, by any number above 0
+abbrev pub AlwaysLeast : Type 0
+AlwaysLeast = (n : ℤ) (d : ℕ) → 0 < d → RoundedUp n d (roundedUp n d)

@@ -6,7 +6,7 @@ use lib.Dec.{leb, ltb}
 use Rattle.std.specs.declared.option.Option.{Option}
 use Rattle.std.specs.declared.option.Option.the-variants.{None, Some}
 use Rattle.steels.specs.declared.cap.Cap.{Cap}
-use Rattle.steels.specs.declared.capped.Capped.{Capped}
+use Rattle.steels.specs.declared.cap.capped.Capped.{Capped}
 use Rattle.steels.specs.Refusal.{Refused}
 
 -- a cap lies from 21 to 1,200

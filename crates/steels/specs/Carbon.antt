@@ -26,8 +26,8 @@ abbrev pub cubic : ℕ → ℕ
 cubic d = (42500000000 + 77300000 * d + 222 * (d * d * d) - 169000 * (d * d)) / 100000000
 
 -- the four formulas, each rounded down, at a degree from 20 to 1,200
-abbrev pub heat : ℕ → ℕ
-heat d = cond (ltb d 600) (cubic d) (cond (ltb d 735) (666 + 13002 / (738 - d)) (cond (ltb d 900) (545 + 17820 / (d - 731)) 650))
+abbrev pub capacityFormula : ℕ → ℕ
+capacityFormula d = cond (ltb d 600) (cubic d) (cond (ltb d 735) (666 + 13002 / (738 - d)) (cond (ltb d 900) (545 + 17820 / (d - 731)) 650))
 
 abbrev pub carbonCapacity : ℕ → ℕ
-carbonCapacity d = heat (clamped d)
+carbonCapacity d = capacityFormula (clamped d)

@@ -3,5 +3,5 @@ pub mod Capped
 pub mod Meaning
 pub mod Mill
 pub mod Refusal
-pub mod Sheet
+pub mod MillStore
 pub mod Table

@@ -1,6 +1,6 @@
 // Carbon steel by EN 1993-1-2, Table 3.1 and 3.4.1.2.
 ghost use mathlib.Core.Path.{_≡_};
-ghost use Prim.Native.Nat.{_<_};
+ghost use Prim.Native.Nat.{_≤_};
 ghost use Rattle.steels.specs.Carbon.{carbonCapacity, carbonFactor, carbonRows, cubic};
 ghost use Rattle.steels.specs.Table.{Linear};
 ghost use Rattle.steels.specs.declared.table.Column.{Column};
@@ -122,7 +122,7 @@ pub impl Steel for Carbon as CarbonSteel {
 
 // The formula below 600 degrees, in parts of 10^8 so that all is whole.
 fn cubic_capacity(degree: u32) -> u32
-    requires { ⌜ degree < 600 ⌝ }
+    requires { ⌜ degree ≤ 600 ⌝ }
     ensures { λ r. ⌜ r ≡ cubic degree ⌝ }
 {
     let d = degree as u64;

@@ -1,4 +1,6 @@
-// The store of a mill sheet: the points in hand, which are always without fault.
+// The store of a mill sheet.
+pub mod sheet;
+
 ghost use mathlib.Core.Bool.{false};
 ghost use mathlib.Core.Path.{_≡_};
 ghost use Prim.Native.Nat.{_≤_};
@@ -7,10 +9,11 @@ ghost use Rattle.std.specs.Options.{isSome};
 ghost use Rattle.steels.specs.Mill.{sheetFault};
 use crate::point::Point;
 
-#[derive(Clone, Copy)]
+// The points in hand are always without fault. What lies behind the count is free.
+#[derive(Drop)]
 pub struct MillSheet {
-    pub(crate) points: [Point; 64],
-    pub(crate) count: usize,
+    points: [Point; 64],
+    count: usize,
     ghost few: { count ≤ 64 },
     ghost sound: { isSome (sheetFault (take count points)) ≡ false },
 }

@@ -3,11 +3,11 @@ use native.Mathlib.Nat.{mul-le-mul-left, mul-le-mul-right}
 use native.Mathlib.Omega.{arith}
 use Rattle.steels.proofs.carbon.cubic_capacity.Needs as need
 
--- squares and cubes of a degree below 600
-square : (d : ℕ) → d < 600 → d * d ≤ 599 * d
+-- squares and cubes of a degree up to 600
+square : (d : ℕ) → d ≤ 600 → d * d ≤ 600 * d
 square d h = mul-le-mul-right d (omega arith)
 
-cube : (d : ℕ) → d < 600 → d * d * d ≤ 599 * (599 * d)
+cube : (d : ℕ) → d ≤ 600 → d * d * d ≤ 600 * (600 * d)
 cube d h = omega (arith, mul-le-mul-right d (square d h), square d h)
 
 pub mul-parts-4 : need.mul-parts-4

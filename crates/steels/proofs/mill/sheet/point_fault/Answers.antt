@@ -3,7 +3,7 @@ use native.Mathlib.Omega.{arith}
 use Rattle.std.proofs.shelf.Lists.{at-drop-all}
 use Rattle.steels.specs.Mill.{pointFault}
 use Rattle.steels.proofs.Points.{goes-on, stops-at-degree, stops-at-figure}
-use Rattle.steels.proofs.reading.point_fault.Needs as need
+use Rattle.steels.proofs.mill.sheet.point_fault.Needs as need
 
 pub returns-then-not-degree-fits : need.returns-then-not-degree-fits
 returns-then-not-degree-fits c =

@@ -1,7 +1,7 @@
 use mathlib.Core.Path.{_≡_}
 use lib.ListN.{drop}
 use Rattle.steels.specs.Mill.{capacityFrom}
-use Rattle.steels.proofs.reading.last_capacity.Given as given
+use Rattle.steels.proofs.mill.sheet.last_capacity.Given as given
 
 -- what is left decides, from the capacity in hand on
 abbrev pub Inv-loop-point : given.InvT-loop-point

@@ -1,6 +1,6 @@
 use borrow.Author.Needs.{needs}
 use Rattle.steels.proofs.Points.{from-first, no-points}
-use Rattle.steels.proofs.reading.capacity_of.Needs as need
+use Rattle.steels.proofs.mill.sheet.capacity_of.Needs as need
 
 pub returns-in-rest : need.returns-in-rest
 returns-in-rest c = no-points (c .args .points .now) (c .args .degree) (search needs)

@@ -1,7 +1,7 @@
 use Rattle.steels.specs.declared.table.Column.the-variants.{Stiffness, Strength}
-use Rattle.steels.specs.Sheet.{pointsOf}
+use Rattle.steels.specs.MillStore.{pointsOf}
 use Rattle.steels.proofs.Points.{sheet-capacity-law, sheet-factor-law}
-use Rattle.steels.proofs.reading.MillSheetSteel.the-impl.Needs as need
+use Rattle.steels.proofs.mill.sheet.MillSheetSteel.the-impl.Needs as need
 
 pub strength-law-law : need.strength-law-law
 strength-law-law s = sheet-factor-law Strength (pointsOf s) (s .sound)

@@ -10,7 +10,7 @@ ghost use Rattle.std.specs.Vec.{made};
 ghost use Rattle.std.specs.declared.option.Option.the-variants.{None};
 ghost use Rattle.steels.specs.Mill.{Follows, capacityFrom, degreeFits, falls, firstPoints, inRange, pointFault, rowOf, sheetCapacity, sheetFactor, sheetFault};
 ghost use Rattle.steels.specs.Refusal.{refused};
-ghost use Rattle.steels.specs.Sheet.{pointsOf};
+ghost use Rattle.steels.specs.MillStore.{pointsOf};
 ghost use Rattle.steels.specs.Table.{Sound};
 ghost use Rattle.steels.specs.declared.table.Column.the-variants.{Stiffness, Strength};
 use crate::meaning::Steel;
@@ -115,14 +115,15 @@ fn stored(points: &[Point]) -> [Point; 64]
 impl MillSheet {
     // Before any is read: full factors and 600 J/(kg K) everywhere.
     pub fn new() -> MillSheet
-        ensures { λ r. ⌜ pointsOf r ≡ firstPoints ⌝ }
+        ensures points { λ r. ⌜ pointsOf r ≡ firstPoints ⌝ }
+        ensures meaning { λ _. ⌜ Follows firstPoints ⌝ }
     {
         holding(&[Point::flat(20), Point::flat(1200)])
     }
 
     // Takes the points for those in hand, or refuses them and keeps those in hand.
     pub fn read(&mut self, points: &[Point]) -> Result<(), Refusal>
-        ensures refused { λ r. ⌜ mapped refused (errPart r) ≡ sheetFault (now (points .entry)) ⌝ }
+        ensures fault { λ r. ⌜ mapped refused (errPart r) ≡ sheetFault (now (points .entry)) ⌝ }
         ensures taken { λ r. ⌜ made r (λ _. pointsOf (now (self .exit)) ≡ now (points .entry)) ⌝ }
         ensures meaning { λ r. ⌜ made r (λ _. Follows (now (points .entry))) ⌝ }
         ensures kept { λ r. ⌜ (isOk r ≡ false → now (self .exit) ≡ now (self .entry)) ⌝ }
@@ -166,20 +167,20 @@ pub impl Steel for MillSheet as MillSheetSteel {
     ghost capacity = { λ s. sheetCapacity (pointsOf s) };
 
     fn strength_at(&self, degree: u32) -> u32 {
-        factor_at(Column::Strength, self.standing(), degree)
+        factor_at(Column::Strength, self.in_hand(), degree)
     }
 
     fn stiffness_at(&self, degree: u32) -> u32 {
-        factor_at(Column::Stiffness, self.standing(), degree)
+        factor_at(Column::Stiffness, self.in_hand(), degree)
     }
 
     fn capacity_at(&self, degree: u32) -> u32 {
-        capacity_of(self.standing(), degree)
+        capacity_of(self.in_hand(), degree)
     }
 }
 
 impl MillSheet {
-    fn standing(&self) -> &[Point]
+    fn in_hand(&self) -> &[Point]
         ensures points { λ r. ⌜ now r ≡ pointsOf (now (self .entry)) ⌝ }
         ensures sound { λ r. ⌜ Sound (map rowOf (now r)) ⌝ }
     {

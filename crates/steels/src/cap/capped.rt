@@ -11,7 +11,7 @@ use crate::refusal::Refusal;
 
 impl Cap {
     pub fn new(degree: u32) -> Result<Cap, Refusal>
-        ensures refused { λ r. ⌜ mapped refused (errPart r) ≡ capFault degree ⌝ }
+        ensures fault { λ r. ⌜ mapped refused (errPart r) ≡ capFault degree ⌝ }
         ensures taken { λ r. ⌜ made r (λ cap. capDegree cap ≡ degree) ⌝ }
     {
         if degree < 21 || degree > 1200 {
@@ -37,11 +37,11 @@ impl<S> Capped<S> {
 }
 
 pub impl<S: Steel> Steel for Capped<S> as CappedSteel {
-    ghost strength = { λ s. cappedFactor (s .cap .degree) (S·Steel .strength (s .below)) };
+    ghost strength = { λ s. cappedFactor (capDegree (capOf s)) (S·Steel .strength (steelBelow s)) };
 
-    ghost stiffness = { λ s. cappedFactor (s .cap .degree) (S·Steel .stiffness (s .below)) };
+    ghost stiffness = { λ s. cappedFactor (capDegree (capOf s)) (S·Steel .stiffness (steelBelow s)) };
 
-    ghost capacity = { λ s. S·Steel .capacity (s .below) };
+    ghost capacity = { λ s. S·Steel .capacity (steelBelow s) };
 
     fn strength_at(&self, degree: u32) -> u32 {
         if degree < self.cap.degree {

@@ -3,7 +3,7 @@ use native.Mathlib.Omega.{arith}
 use Rattle.std.proofs.shelf.Lists.{at-drop-all}
 use Rattle.steels.specs.Mill.{capacityFrom}
 use Rattle.steels.proofs.Points.{keeps, takes}
-use Rattle.steels.proofs.reading.last_capacity.Needs as need
+use Rattle.steels.proofs.mill.sheet.last_capacity.Needs as need
 
 pub returns-then-degree-point : need.returns-then-degree-point
 returns-then-degree-point c =
