@@ -12,7 +12,8 @@ use Rattle.std.specs.declared.option.Option.the-variants.{Some, None}
 use Rattle.std.proofs.shelf.Bits.{div-below, le-div}
 use Rattle.std.proofs.shelf.Tests.{and-left, and-right, cases-lt, cond-true, cond-false, cond-both, leb-true, le-leb, lt-leb}
 use Rattle.check.specs.declared.input.Figures.{Figures}
-use Rattle.check.specs.Check.{utilisation, bucklingUse, imperfectionOf, kept, keptBuckling, rules, carries}
+use Rattle.check.specs.Check.{utilisation, bucklingUse, imperfectionOf, rules, carries}
+use Rattle.check.specs.Kept.{kept, keptBuckling}
 
 -- two utilisations that no factor tells apart
 abbrev Alike : ℕ → ℕ → Type 0

@@ -74,12 +74,3 @@ abbrev pub NoLower : Type 0
 NoLower =
     (f : Figures) (y z y′ z′ : ℕ → ℕ) (load load′ : ℕ) → NowhereLower y′ y → NowhereLower z′ z
     → load′ ≤ load → criticalOf f y z load ≤ criticalOf f y′ z′ load′
-
--- what a check keeps of a utilisation: 10,001, above every factor, if the load is above the resistance
-abbrev pub kept : ℕ → ℕ → ℕ
-kept load resistance = cond (leb load resistance) (utilisation load resistance) 10001
-
--- the same over an ideal buckling load
-abbrev pub keptBuckling : ℕ → Option ℕ → ℕ
-keptBuckling load None = 0
-keptBuckling load (Some k) = kept load k

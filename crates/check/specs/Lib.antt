@@ -1,3 +1,4 @@
 pub mod Refusal
 pub mod Members
 pub mod Check
+pub mod Kept

@@ -3,7 +3,8 @@ ghost use mathlib.Core.Path.{_≡_};
 ghost use Prim.Native.Nat.{_≤_};
 ghost use Rattle.rounding.specs.Quotient.{ceil};
 ghost use Rattle.check.specs.Members.{figuresOf};
-ghost use Rattle.check.specs.Check.{PassesBelow, PassesUnloaded, imperfectionOf, kept, keptBuckling, passesAt, rules};
+ghost use Rattle.check.specs.Check.{PassesBelow, PassesUnloaded, imperfectionOf, passesAt, rules};
+ghost use Rattle.check.specs.Kept.{kept, keptBuckling};
 use crate::checked::Member;
 use rounding::rounded_up;
 use steels::Steel;
@@ -78,7 +79,7 @@ impl Demand {
         }
     }
 
-    // The three rules. Without the first two, differences below 0 would pass the third.
+    // The three rules. The first two come first: a difference below 0 counts as 0 here, and with no buckling the third would hold.
     fn met(&self, factors: Factors) -> bool
         ensures { λ r. ⌜ r ≡ rules (now (self .entry) .imperfection) (now (self .entry) .strength) (now (self .entry) .buckling) (factors .strength) (factors .stiffness) ⌝ }
     {

@@ -2,7 +2,7 @@
 ghost use mathlib.Core.Path.{_≡_};
 ghost use Prim.Native.Nat.{_*_};
 ghost use Rattle.std.specs.Vec.{made};
-ghost use Rattle.utilisation.specs.Standard.{standard};
+ghost use Rattle.examples.specs.Worked.{s235};
 ghost use Rattle.check.specs.Check.{criticalOf};
 ghost use Rattle.check.specs.Members.{figuresOf};
 use check::Figures;
@@ -74,7 +74,7 @@ impl fmt::Display for Degree as DegreeDisplay {
 
 // A member of S235 with a cold strength of 1,000,000.
 fn member(buckling_load: Option<u64>) -> Result<Member, AnyError>
-    ensures { λ r. ⌜ made r (λ m. figuresOf m ≡ standard «buckling_load») ⌝ }
+    ensures { λ r. ⌜ made r (λ m. figuresOf m ≡ s235 «buckling_load») ⌝ }
 {
     let figures = Figures {
         section_factor: 200,
@@ -186,7 +186,8 @@ fn print_fluxes(rt: &impl Print) -> Result<(), AnyError> {
 }
 
 fn run(rt: &impl Print) -> Result<(), AnyError> {
-    let _ = figures::worked_figures();
+    // Carries the proof that the worked figures of the rules hold.
+    examples::worked_figures();
     println!(
         rt,
         "Critical temperatures in degrees Celsius, carbon steel, f = 235 MPa"

@@ -21,7 +21,7 @@ impl GasCurve {
         ensures { λ r. ⌜ temperaturesOf r ≡ [] ⌝ }
     {
         GasCurve {
-            store: [0; 4096],
+            store: [20; 4096],
             count: 0,
         }
     }

@@ -14,16 +14,16 @@ use Rattle.fires.specs.declared.meaning.Reading.the-variants.{Flux}
 use Rattle.check.specs.Check.{criticalOf, imperfectionOf, passesAt}
 use Rattle.check.specs.declared.input.Figures.{Figures}
 
--- a member of steel S235, of cold strength 1,000,000, with an ideal buckling load or none
-abbrev pub member : Option ℕ → Figures
-member k = record { «section_factor» = 200; seconds = 5; «yield_strength» = 235; «cold_strength» = 1000000; «buckling_load» = k }
+-- a member of S235, of cold strength 1,000,000, with an ideal buckling load or none
+abbrev pub s235 : Option ℕ → Figures
+s235 k = record { «section_factor» = 200; seconds = 5; «yield_strength» = 235; «cold_strength» = 1000000; «buckling_load» = k }
 
 -- its critical temperature in carbon steel, and whether it passes cold
 abbrev pub critical : Option ℕ → ℕ → ℕ
-critical k load = criticalOf (member k) (carbonFactor Strength) (carbonFactor Stiffness) load
+critical k load = criticalOf (s235 k) (carbonFactor Strength) (carbonFactor Stiffness) load
 
 abbrev pub passesCold : Option ℕ → ℕ → Bool
-passesCold k load = passesAt (member k) (carbonFactor Strength) (carbonFactor Stiffness) load 20
+passesCold k load = passesAt (s235 k) (carbonFactor Strength) (carbonFactor Stiffness) load 20
 
 abbrev pub WorkedFigures : Type 0
 WorkedFigures =
