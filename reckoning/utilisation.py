@@ -1,7 +1,7 @@
 #!/usr/bin/env python3
 """What the program `utilisation` must write, reckoned apart: `reckoning/utilisation.py > crates/utilisation/stdout`."""
 
-from rules import CappedSteel, CarbonSteel, Member, gas_flux, shaded
+from rules import CappedSteel, CarbonSteel, Member, gas_flux, gauge_flux, shaded
 
 # EN 1993-1-2, Table 4.1: critical temperatures at utilisations from 0.22 to 0.80 by 0.02
 TABLE_4_1 = [
@@ -41,3 +41,18 @@ print(" gas  bare 20  shaded 20  bare 600  shaded 600")
 for gas in range(100, 1201, 100):
     cold, hot = gas_flux(gas, 20), gas_flux(gas, 600)
     print(f"{gas:4}  {cold:7}  {shaded(cold, 900):9}  {hot:8}  {shaded(hot, 900):10}")
+print()
+print("Carbon steel: factors in ten-thousandths, heat capacity in J/(kg K)")
+print()
+print("degree  strength  stiffness  capacity")
+for degree in (20, 150, 450, 500, 550, 599, 600, 650, 734, 735, 850, 899, 900, 950, 1150, 1200):
+    print(f"{degree:6}  {steel.strength(degree):8}  {steel.stiffness(degree):9}  {steel.capacity(degree):8}")
+print()
+print("Gauge record 8001 7FFF 03E8 FFFD 8000: net heat flux in W/m2")
+print()
+print("step     flux")
+record = bytes.fromhex("80017FFF03E8FFFD8000")
+for step in range(6):
+    pair = record[2 * step : 2 * step + 2]
+    flux = "ended" if not pair else gauge_flux(*pair)
+    print(f"{step:4}  {'missing' if flux is None else flux:>7}")

@@ -7,5 +7,4 @@ mod tests;
 // The call carries the theorem that all the worked figures hold; it has nothing to do when it runs.
 pub fn worked_figures()
     ensures { λ _. ⌜ WorkedFigures ⌝ }
-{
-}
+{}

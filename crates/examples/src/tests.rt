@@ -83,7 +83,10 @@ fn mill_sheet_is_taken_whole_or_not_at_all() -> Result<(), Fail> {
 fn capped_steel_carries_nothing_from_its_cap_on() -> Result<(), Fail> {
     let class_4 = Capped::over(Carbon::new(), Cap::new(351)?);
     check_eq(class_4.strength_at(350), 10_000)?;
-    check_eq(class_4.strength_at(351), 0)
+    check_eq(class_4.strength_at(351), 0)?;
+    let tie = Member::new(figures(5, None))?;
+    check_eq(critical_temperature(&tie, &class_4, 1), 350)?;
+    check_eq(critical_temperature(&tie, &class_4, 0), 1_200)
 }
 
 #[test]

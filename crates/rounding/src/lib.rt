@@ -48,5 +48,4 @@ fn times_begun(size: u64, d: u64) -> u64
 // What is true of any quotient, also of one too wide for the code.
 fn always_least()
     ensures { λ _. ⌜ AlwaysLeast ⌝ }
-{
-}
+{}

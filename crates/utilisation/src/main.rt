@@ -11,6 +11,8 @@ use check::critical_temperature;
 use fires::Fire;
 use fires::GasCurve;
 use fires::GasFire;
+use fires::GaugeFire;
+use fires::GaugeRecord;
 use fires::Reading;
 use fires::Shaded;
 use fires::ShadedFire;
@@ -185,6 +187,52 @@ fn print_fluxes(rt: &impl Print) -> Result<(), AnyError> {
     Ok(())
 }
 
+// Degrees at the rows of the table, between them, and on both sides of each change of formula.
+const DEGREES: [u32; 16] = [
+    20,
+    150,
+    450,
+    500,
+    550,
+    599,
+    600,
+    650,
+    734,
+    735,
+    850,
+    899,
+    900,
+    950,
+    1150,
+    1200,
+];
+
+fn print_steel(rt: &impl Print) -> Result<(), AnyError> {
+    let carbon = Carbon::new();
+    for degree in DEGREES {
+        let strength = carbon.strength_at(degree);
+        let stiffness = carbon.stiffness_at(degree);
+        let capacity = carbon.capacity_at(degree);
+        println!(rt, "{degree:6}  {strength:8}  {stiffness:9}  {capacity:8}")?;
+    }
+    Ok(())
+}
+
+// Five words: the least and the greatest flux, a gain and a loss, and no reading; then the end.
+const WORDS: [u8; 10] = [0x80, 0x01, 0x7f, 0xff, 0x03, 0xe8, 0xff, 0xfd, 0x80, 0x00];
+
+fn print_record(rt: &impl Print) -> Result<(), AnyError> {
+    let mut record = GaugeRecord::new();
+    if record.read(&WORDS).is_err() {
+        return Err("the gauge record is refused".into());
+    }
+    for step in 0..6 {
+        let flux = Flux(record.reading_at(step, 20_000));
+        println!(rt, "{step:4}  {flux:>7}")?;
+    }
+    Ok(())
+}
+
 fn run(rt: &impl Print) -> Result<(), AnyError> {
     // Carries the proof that the worked figures of the rules hold.
     examples::worked_figures();
@@ -206,7 +254,19 @@ fn run(rt: &impl Print) -> Result<(), AnyError> {
         "Net heat flux in W/m2 by gas temperature, onto steel at 20 and at 600 degrees, bare and with a shading of 0.900\n"
     )?;
     println!(rt, " gas  bare 20  shaded 20  bare 600  shaded 600")?;
-    print_fluxes(rt)
+    print_fluxes(rt)?;
+    println!(
+        rt,
+        "\nCarbon steel: factors in ten-thousandths, heat capacity in J/(kg K)\n"
+    )?;
+    println!(rt, "degree  strength  stiffness  capacity")?;
+    print_steel(rt)?;
+    println!(
+        rt,
+        "\nGauge record 8001 7FFF 03E8 FFFD 8000: net heat flux in W/m2\n"
+    )?;
+    println!(rt, "step     flux")?;
+    print_record(rt)
 }
 
 fn main(rt: LibcRuntime) -> Result<(), AnyError> {
