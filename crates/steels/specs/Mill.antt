@@ -68,12 +68,13 @@ abbrev pub LastNotAbove : List Point → (ℕ → ℕ) → Type 0
 LastNotAbove points f =
     (before after : List Point) (p : Point) (d : ℕ) → points ≡ before ++ (p ∷ after) → p .degree ≤ d → d ≤ 1200 → All (λ q. d < q .degree) after → f d ≡ p .capacity
 
--- before any is read: full factors, and 600 J/(kg K)
-abbrev flat : ℕ → Point
-flat d = record { degree = d; strength = 10000; stiffness = 10000; capacity = 600 }
+-- a point of full factors and 600 J/(kg K)
+abbrev pub fullPoint : ℕ → Point
+fullPoint d = record { degree = d; strength = 10000; stiffness = 10000; capacity = 600 }
 
+-- the points before any are read
 abbrev pub firstPoints : List Point
-firstPoints = flat 20 ∷ flat 1200 ∷ []
+firstPoints = fullPoint 20 ∷ fullPoint 1200 ∷ []
 
 -- what the points of a sheet say of its steel
 pub record Follows (points : List Point) : Type 0 where

@@ -80,6 +80,7 @@ const ROWS: [Row; 13] = [
     },
 ];
 
+// One carbon steel is like any other: it has no figures of its own.
 #[derive(Clone, Copy)]
 pub struct Carbon;
 

@@ -8,7 +8,7 @@ ghost use Rattle.std.specs.Options.{isSome, mapped};
 ghost use Rattle.std.specs.Results.{errPart, isOk};
 ghost use Rattle.std.specs.Vec.{made};
 ghost use Rattle.std.specs.declared.option.Option.the-variants.{None};
-ghost use Rattle.steels.specs.Mill.{Follows, capacityFrom, degreeFits, falls, firstPoints, inRange, pointFault, rowOf, sheetCapacity, sheetFactor, sheetFault};
+ghost use Rattle.steels.specs.Mill.{Follows, capacityFrom, degreeFits, falls, firstPoints, fullPoint, inRange, pointFault, rowOf, sheetCapacity, sheetFactor, sheetFault};
 ghost use Rattle.steels.specs.Refusal.{refused};
 ghost use Rattle.steels.specs.MillStore.{pointsOf};
 ghost use Rattle.steels.specs.Table.{Sound};
@@ -23,9 +23,9 @@ use crate::table::clamp;
 use crate::table::factor_at;
 
 impl Point {
-    // The flat point of the sheet before any is read.
-    const fn flat(degree: u32) -> Point
-        ensures { λ r. ⌜ r ≡ record { degree = degree; strength = 10000; stiffness = 10000; capacity = 600 } ⌝ }
+    // Of such points a sheet is made before any are read.
+    const fn full(degree: u32) -> Point
+        ensures { λ r. ⌜ r ≡ fullPoint degree ⌝ }
     {
         Point {
             degree,
@@ -65,6 +65,7 @@ impl Point {
     }
 }
 
+// Why the points are refused, if they are: their number comes first.
 fn fault(points: &[Point]) -> Option<Refusal>
     ensures { λ r. ⌜ mapped refused r ≡ sheetFault (now (points .entry)) ⌝ }
 {
@@ -74,6 +75,7 @@ fn fault(points: &[Point]) -> Option<Refusal>
     point_fault(points)
 }
 
+// The first point at fault decides, and at it the smaller number.
 fn point_fault(points: &[Point]) -> Option<Refusal>
     ensures { λ r. ⌜ mapped refused r ≡ pointFault 0 None (now (points .entry)) ⌝ }
 {
@@ -107,7 +109,7 @@ fn stored(points: &[Point]) -> [Point; 64]
     requires { ⌜ length (now points) ≤ 64 ⌝ }
     ensures { λ r. ⌜ take (length (now (points .entry))) r ≡ now (points .entry) ⌝ }
 {
-    let mut store = [Point::flat(20); 64];
+    let mut store = [Point::full(20); 64];
     store[0..points.len()].copy_from_slice(points);
     store
 }
@@ -118,7 +120,7 @@ impl MillSheet {
         ensures points { λ r. ⌜ pointsOf r ≡ firstPoints ⌝ }
         ensures meaning { λ _. ⌜ Follows firstPoints ⌝ }
     {
-        holding(&[Point::flat(20), Point::flat(1200)])
+        holding(&[Point::full(20), Point::full(1200)])
     }
 
     // Takes the points for those in hand, or refuses them and keeps those in hand.
@@ -180,6 +182,7 @@ pub impl Steel for MillSheet as MillSheetSteel {
 }
 
 impl MillSheet {
+    // Points without fault make a sound table.
     fn in_hand(&self) -> &[Point]
         ensures points { λ r. ⌜ now r ≡ pointsOf (now (self .entry)) ⌝ }
         ensures sound { λ r. ⌜ Sound (map rowOf (now r)) ⌝ }
