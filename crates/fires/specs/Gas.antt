@@ -1,20 +1,17 @@
 -- A gas curve by its temperatures.
-use mathlib.Core.Bool.{cond}
+use mathlib.Core.Bool.{_&&_, cond}
 use mathlib.Core.List.{List, [], _∷_}
-use mathlib.Core.Logic.{_⊎_}
-use mathlib.Core.Path.{_≡_}
-use Prim.Native.Nat.{ℕ, _+_, _/_, _^_, _<_, _≤_, max, min}
-use lib.Dec.{ltb}
+use Prim.Native.Nat.{ℕ, suc, _+_, _/_, _^_, _<_, _≤_, max, min}
+use lib.Dec.{leb, ltb}
 use lib.IntN.{ℤ, pos, _+ℤ_, _-ℤ_, _*ℤ_}
 use lib.ListN.{length, getD, take}
-use Rattle.std.specs.Results.{Cases}
-use Rattle.std.specs.declared.result.Result.{Result}
+use Rattle.std.specs.declared.option.Option.{Option}
+use Rattle.std.specs.declared.option.Option.the-variants.{None, Some}
 use Rattle.rounding.specs.Quotient.{roundedUp}
-use Rattle.fires.specs.Refusal.{refused}
+use Rattle.fires.specs.Refusal.{Refused}
 use Rattle.fires.specs.declared.gas.GasCurve.{GasCurve}
 use Rattle.fires.specs.declared.meaning.Reading.{Reading}
 use Rattle.fires.specs.declared.meaning.Reading.the-variants.{Flux, Ended}
-use Rattle.fires.specs.declared.refusal.Refusal.{Refusal}
 
 -- the gas temperatures of a curve, in whole degrees
 abbrev pub temperaturesOf : GasCurve → List ℕ
@@ -42,18 +39,11 @@ GasDegree g = (20 ≤ g) × (g ≤ 1200)
 abbrev pub GasDegrees : List ℕ → Type 0
 GasDegrees gs = (k : ℕ) → k < length gs → GasDegree (getD gs k 0)
 
--- the first temperature of a list that is not
-pub record FirstOutside (gs : List ℕ) (k : ℕ) : Type 0 where
-  pub there : k < length gs
-  pub outside : GasDegree (getD gs k 0) → ⊥
-  pub first : (j : ℕ) → j < k → GasDegree (getD gs j 0)
+-- the first temperature outside 20 to 1,200, counted from i
+abbrev pub outsideFrom : ℕ → List ℕ → Option Refused
+outsideFrom i [] = None
+outsideFrom i (g ∷ gs) = cond (leb 20 g && leb g 1200) (outsideFrom (suc i) gs) (Some (9, i ∷ []))
 
--- the step that a list is refused for: 4096 if it has more, and only else the first one outside
-abbrev pub GasFault : List ℕ → ℕ → Type 0
-GasFault gs k = ((4096 < length gs) × (k ≡ 4096)) ⊎ ((length gs ≤ 4096) × FirstOutside gs k)
-
--- temperatures handed in are the curve's, or they are at fault: then it is refused (9, with the step) and left as it was
-abbrev pub CurveRead : List ℕ → GasCurve → GasCurve → Result Unit Refusal → Type 0
-CurveRead gs before after r =
-    Cases r (λ _. (length gs ≤ 4096) × GasDegrees gs × (temperaturesOf after ≡ gs))
-    (λ e. ((k : ℕ) × (refused e ≡ (9, k ∷ [])) × GasFault gs k) × (after ≡ before))
+-- the length comes first
+abbrev pub gasFault : List ℕ → Option Refused
+gasFault gs = cond (leb (length gs) 4096) (outsideFrom 0 gs) (Some (9, 4096 ∷ []))

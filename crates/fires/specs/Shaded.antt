@@ -1,15 +1,15 @@
 -- A shaded fire by its parts.
+use mathlib.Core.Bool.{_&&_, cond}
 use mathlib.Core.List.{[]}
-use mathlib.Core.Path.{_≡_}
-use Prim.Native.Nat.{ℕ, _≤_}
+use Prim.Native.Nat.{ℕ}
+use lib.Dec.{leb}
 use lib.IntN.{pos, _*ℤ_}
-use Rattle.std.specs.Results.{Cases}
-use Rattle.std.specs.declared.result.Result.{Result}
+use Rattle.std.specs.declared.option.Option.{Option}
+use Rattle.std.specs.declared.option.Option.the-variants.{None, Some}
 use Rattle.rounding.specs.Quotient.{roundedUp}
-use Rattle.fires.specs.Refusal.{refused}
+use Rattle.fires.specs.Refusal.{Refused}
 use Rattle.fires.specs.declared.meaning.Reading.{Reading}
 use Rattle.fires.specs.declared.meaning.Reading.the-variants.{Flux, Missing, Ended}
-use Rattle.fires.specs.declared.refusal.Refusal.{Refusal}
 use Rattle.fires.specs.declared.shading.Shading.{Shading}
 use Rattle.fires.specs.declared.shading.shaded.Shaded.{Shaded}
 
@@ -31,10 +31,6 @@ shadedReading m (Flux q) = Flux (roundedUp (q *ℤ pos m) 1000)
 shadedReading m Missing = Missing
 shadedReading m Ended = Ended
 
--- a number of thousandths that shades
-abbrev pub Shades : ℕ → Type 0
-Shades m = (1 ≤ m) × (m ≤ 1000)
-
--- a number is the shading's, or it shades nothing and is refused (10)
-abbrev pub ShadingMade : ℕ → Result Shading Refusal → Type 0
-ShadingMade m r = Cases r (λ s. Shades m × (thousandthsOf s ≡ m)) (λ e. (Shades m → ⊥) × (refused e ≡ (10, [])))
+-- a shading lies from 1 to 1,000
+abbrev pub shadingFault : ℕ → Option Refused
+shadingFault m = cond (leb 1 m && leb m 1000) None (Some (10, []))

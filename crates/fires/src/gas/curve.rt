@@ -1,12 +1,17 @@
 // A gas curve: handed in as whole gas temperatures, and asked as a fire (EN 1991-1-2, with emissivity 0.7 and 25 W/(m² K)).
+ghost use mathlib.Core.Bool.{_&&_, false};
 ghost use mathlib.Core.List.{[]};
 ghost use mathlib.Core.Path.{_≡_};
 ghost use Prim.Native.Nat.{_+_, _^_};
 ghost use lib.IntN.{negℤ, pos, _*ℤ_};
 ghost use lib.Signed.{_≤ℤ_};
+ghost use lib.Dec.{leb};
 ghost use lib.ListN.{length};
-ghost use Rattle.std.specs.Options.{Cases as BySome};
-ghost use Rattle.fires.specs.Gas.{CurveRead, FirstOutside, GasDegree, GasDegrees, gasFlux, gasTells, steelDegree, temperaturesOf};
+ghost use Rattle.std.specs.Options.{isSome, mapped};
+ghost use Rattle.std.specs.Results.{errPart, isOk};
+ghost use Rattle.std.specs.Vec.{made};
+ghost use Rattle.fires.specs.Gas.{GasDegree, gasFault, gasFlux, gasTells, outsideFrom, steelDegree, temperaturesOf};
+ghost use Rattle.fires.specs.Refusal.{refused};
 ghost use Rattle.rounding.specs.Quotient.{roundedUp};
 use crate::gas::GasCurve;
 use crate::meaning::Fire;
@@ -28,31 +33,57 @@ impl GasCurve {
 
     // Takes the temperatures in place of those in hand, or refuses and leaves them.
     pub fn read(&mut self, temperatures: &[u32]) -> Result<(), Refusal>
-        ensures { λ r. ⌜ CurveRead (now (temperatures .entry)) (now (self .entry)) (now (self .exit)) r ⌝ }
+        ensures fault { λ r. ⌜ mapped refused (errPart r) ≡ gasFault (now (temperatures .entry)) ⌝ }
+        ensures taken { λ r. ⌜ made r (λ _. temperaturesOf (now (self .exit)) ≡ now (temperatures .entry)) ⌝ }
+        ensures kept { λ r. ⌜ (isOk r ≡ false → now (self .exit) ≡ now (self .entry)) ⌝ }
     {
-        if temperatures.len() > MOST_STEPS {
-            return Err(Refusal::GasTemperature { step: MOST_STEPS });
+        if let Some(refusal) = fault(temperatures) {
+            return Err(refusal);
         }
-        if let Some(step) = first_outside(temperatures) {
-            return Err(Refusal::GasTemperature { step });
-        }
-        self.store[0..temperatures.len()]
-            .copy_from_slice(temperatures);
-        self.count = temperatures.len();
+        *self = holding(temperatures);
         Ok(())
     }
 }
 
+// Why the temperatures are refused, if they are: their number comes first.
+fn fault(temperatures: &[u32]) -> Option<Refusal>
+    ensures { λ r. ⌜ mapped refused r ≡ gasFault (now (temperatures .entry)) ⌝ }
+{
+    if temperatures.len() > MOST_STEPS {
+        return Some(Refusal::GasTemperature { step: MOST_STEPS });
+    }
+    first_outside(temperatures)
+}
+
 // The first step whose temperature lies outside 20 to 1,200.
-fn first_outside(temperatures: &[u32]) -> Option<usize>
-    ensures { λ r. ⌜ BySome r (GasDegrees (now (temperatures .entry))) (FirstOutside (now (temperatures .entry))) ⌝ }
+fn first_outside(temperatures: &[u32]) -> Option<Refusal>
+    ensures { λ r. ⌜ mapped refused r ≡ outsideFrom 0 (now (temperatures .entry)) ⌝ }
 {
     for (step, gas) in temperatures.iter().enumerate() {
-        if *gas < 20 || *gas > 1200 {
-            return Some(step);
+        if !is_gas_degree(*gas) {
+            return Some(Refusal::GasTemperature { step });
         }
     }
     None
+}
+
+fn is_gas_degree(gas: u32) -> bool
+    ensures { λ r. ⌜ r ≡ (leb 20 gas && leb gas 1200) ⌝ }
+{
+    20 <= gas && gas <= 1200
+}
+
+// The curve of temperatures that have no fault.
+fn holding(temperatures: &[u32]) -> GasCurve
+    requires { ⌜ isSome (gasFault (now temperatures)) ≡ false ⌝ }
+    ensures { λ r. ⌜ temperaturesOf r ≡ now (temperatures .entry) ⌝ }
+{
+    let mut curve = GasCurve::new();
+    curve
+        .store[0..temperatures.len()]
+        .copy_from_slice(temperatures);
+    curve.count = temperatures.len();
+    curve
 }
 
 // The fourth power of the absolute temperature.

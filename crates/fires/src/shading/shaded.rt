@@ -1,6 +1,10 @@
 // A fire whose flux reaches the steel in part.
 ghost use mathlib.Core.Path.{_≡_};
-ghost use Rattle.fires.specs.Shaded.{ShadingMade, fireBelow, shadedReading, shadingOf, thousandthsOf};
+ghost use Rattle.std.specs.Options.{mapped};
+ghost use Rattle.std.specs.Results.{errPart};
+ghost use Rattle.std.specs.Vec.{made};
+ghost use Rattle.fires.specs.Refusal.{refused};
+ghost use Rattle.fires.specs.Shaded.{fireBelow, shadedReading, shadingFault, shadingOf, thousandthsOf};
 use crate::meaning::Fire;
 use crate::meaning::Reading;
 use crate::refusal::Refusal;
@@ -8,7 +12,8 @@ use crate::shading::Shading;
 
 impl Shading {
     pub fn new(thousandths: u32) -> Result<Shading, Refusal>
-        ensures { λ r. ⌜ ShadingMade thousandths r ⌝ }
+        ensures fault { λ r. ⌜ mapped refused (errPart r) ≡ shadingFault thousandths ⌝ }
+        ensures taken { λ r. ⌜ made r (λ shading. thousandthsOf shading ≡ thousandths) ⌝ }
     {
         match thousandths {
             1..=1000 => Ok(Shading { thousandths }),

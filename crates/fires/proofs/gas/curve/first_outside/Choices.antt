@@ -1,7 +1,8 @@
-use Prim.Native.Nat.{ℕ, _<_}
-use lib.ListN.{getD}
-use Rattle.fires.specs.Gas.{GasDegree}
+use mathlib.Core.Path.{_≡_}
+use lib.ListN.{drop}
+use Rattle.fires.specs.Gas.{outsideFrom}
 use Rattle.fires.proofs.gas.curve.first_outside.Given as given
 
+-- what is left decides
 abbrev pub Inv-loop-step : given.InvT-loop-step
-Inv-loop-step l = (k : ℕ) → k < l .step → GasDegree (getD (l .temperatures) k 0)
+Inv-loop-step l = outsideFrom (l .step) (drop (l .step) (l .temperatures)) ≡ outsideFrom 0 (l .temperatures)
