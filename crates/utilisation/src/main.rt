@@ -233,39 +233,29 @@ fn print_record(rt: &impl Print) -> Result<(), AnyError> {
     Ok(())
 }
 
+// The headings of the four tables.
+const UTILISATIONS: &str =
+    "Critical temperatures in degrees Celsius, carbon steel, f = 235 MPa\n(strut: ideal buckling load twice the cold strength; class 4: that strut, capped at 351)\n\nutilisation  Table 4.1   tie  difference  strut  class 4";
+
+const FLUXES: &str =
+    "Net heat flux in W/m2 by gas temperature, onto steel at 20 and at 600 degrees, bare and with a shading of 0.900\n\n gas  bare 20  shaded 20  bare 600  shaded 600";
+
+const FACTORS: &str =
+    "\nCarbon steel: factors in ten-thousandths, heat capacity in J/(kg K)\n\ndegree  strength  stiffness  capacity";
+
+const RECORD: &str =
+    "\nGauge record 8001 7FFF 03E8 FFFD 8000: net heat flux in W/m2\n\nstep     flux";
+
 fn run(rt: &impl Print) -> Result<(), AnyError> {
     // Carries the proof that the worked figures of the rules hold.
     examples::worked_figures();
-    println!(
-        rt,
-        "Critical temperatures in degrees Celsius, carbon steel, f = 235 MPa"
-    )?;
-    println!(
-        rt,
-        "(strut: ideal buckling load twice the cold strength; class 4: that strut, capped at 351)\n"
-    )?;
-    println!(
-        rt,
-        "utilisation  Table 4.1   tie  difference  strut  class 4"
-    )?;
+    rt.println(UTILISATIONS)?;
     print_utilisations(rt)?;
-    println!(
-        rt,
-        "Net heat flux in W/m2 by gas temperature, onto steel at 20 and at 600 degrees, bare and with a shading of 0.900\n"
-    )?;
-    println!(rt, " gas  bare 20  shaded 20  bare 600  shaded 600")?;
+    rt.println(FLUXES)?;
     print_fluxes(rt)?;
-    println!(
-        rt,
-        "\nCarbon steel: factors in ten-thousandths, heat capacity in J/(kg K)\n"
-    )?;
-    println!(rt, "degree  strength  stiffness  capacity")?;
+    rt.println(FACTORS)?;
     print_steel(rt)?;
-    println!(
-        rt,
-        "\nGauge record 8001 7FFF 03E8 FFFD 8000: net heat flux in W/m2\n"
-    )?;
-    println!(rt, "step     flux")?;
+    rt.println(RECORD)?;
     print_record(rt)
 }
 
