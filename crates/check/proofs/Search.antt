@@ -6,7 +6,7 @@ use Prim.Native.Nat.{ℕ, zero, suc, _+_, _-_, _/_, _≤_, _<_}
 use native.Mathlib.Nat.{le-trans, le-refl}
 use native.Mathlib.Omega.{arith}
 use lib.Dec.{lit<, lit≤}
-use Rattle.std.proofs.shelf.Tests.{false≢true, cases-bool, cases-lt, cond-true, cond-false, both-ways}
+use Rattle.std.proofs.shelf.Tests.{false≢true, cases-bool, cases-lt, cond-true, cond-false, cond-both, both-ways}
 use Rattle.steels.specs.Meaning.{Factor}
 use Rattle.check.specs.declared.input.Figures.{Figures}
 use Rattle.check.specs.Check.{greatest, Last, Critical, criticalOf, passesAt, NoLower}
@@ -56,6 +56,25 @@ module _ (p : ℕ → Bool) (fades : Fades p) where
     below = λ d l u. fades d c u (passes (le-trans l u));
     above = λ d l u. fails-above (c + 1) d (omega arith) (fails (omega arith));
   }
+
+  -- the greatest number that passes parts those that pass from the others
+  pub greatest-is-last : (first count : ℕ) → 0 < first → Last p first (first + count - 1) (greatest p first count)
+  unfolding greatest
+  greatest-is-last first zero pos = record { least = omega arith; most = omega arith; below = λ d l u. absurd (omega arith); above = λ d l u. absurd (omega arith) }
+  greatest-is-last first (suc k) pos =
+      cond-both (p (first + k)) (first + k) (greatest p first k) (Last p first (first + suc k - 1))
+      (λ passes. record {
+        least = omega arith;
+        most = omega arith;
+        below = λ d _ u. fades d (first + k) u passes;
+        above = λ d l u. absurd (omega arith);
+      })
+      (λ fails. let h = greatest-is-last first k pos in record {
+        least = h .least;
+        most = omega (arith, h .most);
+        below = h .below;
+        above = λ d l u. ⊎-elim (λ (m : d < first + k). h .above d l (omega arith)) (λ (m : first + k ≤ d). fails-above (first + k) d m fails) (cases-lt d (first + k));
+      })
 
 pub narrowed : (p : ℕ → Bool) (first top low high : ℕ) → Narrowed p first top low high → high - low ≤ 1 → Last p first top low
 narrowed p first top low high h near = record {
@@ -109,6 +128,9 @@ critical-parts f y z load c h = greatest-last (passesAt f y z load) 20 1200 c (l
 module _ (f : Figures) (y z : ℕ → ℕ) (load : ℕ) (fy : Factor y) (fz : Factor z) where
   pub passes-fades : Fades (passesAt f y z load)
   passes-fades d e h = passes-below f y z y z load load e d fy fz (λ k. le-refl (y k)) (λ k. le-refl (z k)) (le-refl load) h
+
+  pub critical-is : Critical f y z load (criticalOf f y z load)
+  critical-is = greatest-is-last (passesAt f y z load) passes-fades 20 1181 (lit< tt)
 
   -- for a critical temperature in numbers: the member passes at c and fails at c + 1
   pub critical-at : (c : ℕ) → 20 ≤ c + 1 → c ≤ 1200 → (20 ≤ c → passesAt f y z load c ≡ true) → (c < 1200 → passesAt f y z load (c + 1) ≡ false) → criticalOf f y z load ≡ c

@@ -15,9 +15,9 @@ use Rattle.std.proofs.shelf.Signed.{ints}
 use Rattle.std.proofs.shelf.Tests.{cond-both, cond-false, cond-true, le-ltb, lt-ltb, ltb-true}
 use Rattle.std.proofs.shelf.Ways.{tells}
 use Rattle.fires.specs.Gas.{GasDegree, GasDegrees, gasFlux, gasTells, steelDegree}
-use Rattle.fires.specs.Meaning.{Answers, InRange}
+use Rattle.fires.specs.Meaning.{Answers, InRange, Within}
 use Rattle.fires.specs.declared.meaning.Reading.the-variants.{Flux, Ended}
-use Rattle.fires.proofs.RoundedWithin.{Within, rounded-within}
+use Rattle.fires.proofs.RoundedWithin.{rounded-within}
 
 -- a fourth power is at most that of the hottest degree
 pub fourth-most : (d : ℕ) → d ≤ 1200 → (d + 273) ^ 4 ≤ 1473 ^ 4

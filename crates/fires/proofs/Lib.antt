@@ -1,4 +1,5 @@
 pub mod Copied
+pub mod FluxProducts
 pub mod GasFaults
 pub mod GasLaws
 pub mod GaugeLaws

@@ -2,15 +2,11 @@
 use Prim.Native.Nat.{ℕ, suc, _+_, _-_, _*_, _<_}
 use native.Mathlib.Nat.{add-mul}
 use native.Mathlib.Omega.{arith}
-use lib.IntN.{ℤ, pos, negsuc, negℤ}
-use lib.Signed.{_≤ℤ_}
+use lib.IntN.{ℤ, pos, negsuc}
 use Rattle.rounding.specs.Quotient.{roundedUp}
 use Rattle.std.proofs.shelf.Bits.{div-below}
 use Rattle.std.proofs.shelf.Signed.{ints}
-
--- z lies from −m to m
-abbrev pub Within : ℕ → ℤ → Type 0
-Within m z = (negℤ (pos m) ≤ℤ z) × (z ≤ℤ pos m)
+use Rattle.fires.specs.Meaning.{Within}
 
 pub rounded-within : (z : ℤ) (m d : ℕ) → 0 < d → Within (m * d) z → Within m (roundedUp z d)
 rounded-within (pos n) m d h w =

@@ -1,14 +1,18 @@
 -- What every fire is: the laws of its answers.
 use mathlib.Core.Path.{_≡_}
 use Prim.Native.Nat.{ℕ, _≤_}
-use lib.IntN.{pos, negℤ}
+use lib.IntN.{ℤ, pos, negℤ}
 use lib.Signed.{_≤ℤ_}
 use Rattle.fires.specs.declared.meaning.Reading.{Reading}
 use Rattle.fires.specs.declared.meaning.Reading.the-variants.{Flux, Missing, Ended}
 
+-- z lies from −m to m
+abbrev pub Within : ℕ → ℤ → Type 0
+Within m z = (negℤ (pos m) ≤ℤ z) × (z ≤ℤ pos m)
+
 -- a net heat flux lies from −400,000 to 400,000 W/m²
 abbrev pub InRange : Reading → Type 0
-InRange (Flux q) = (negℤ (pos 400000) ≤ℤ q) × (q ≤ℤ pos 400000)
+InRange (Flux q) = Within 400000 q
 InRange Missing = Unit {0}
 InRange Ended = Unit {0}
 

@@ -5,7 +5,7 @@ use lib.IntN.{ℤ, pos, _+ℤ_, _-ℤ_, _*ℤ_}
 use Rattle.rounding.specs.Quotient.{roundedUp}
 use Rattle.std.proofs.shelf.Signed.{ints}
 use Rattle.fires.proofs.GasLaws.{flux-sum, fourth-most, powers-apart, radiation-within}
-use Rattle.fires.proofs.RoundedWithin.{Within}
+use Rattle.fires.specs.Meaning.{Within}
 use Rattle.fires.proofs.gas.curve.net_flux.Needs as need
 
 pub radiation-requires : need.radiation-requires

@@ -7,8 +7,9 @@ use Rattle.rounding.specs.Quotient.{roundedUp}
 use Rattle.std.proofs.shelf.Signed.{ints}
 use Rattle.fires.specs.Shaded.{shadedReading}
 use Rattle.fires.specs.declared.meaning.Reading.the-variants.{Flux}
-use Rattle.fires.proofs.RoundedWithin.{Within}
-use Rattle.fires.proofs.ShadedLaws.{flux-told, shaded-within, widened-fits, widened-product}
+use Rattle.fires.proofs.FluxProducts.{widened-fits, widened-product}
+use Rattle.fires.specs.Meaning.{Within}
+use Rattle.fires.proofs.ShadedLaws.{flux-told, shaded-within}
 use Rattle.fires.proofs.shading.shaded.ShadedFire.reading_at.Given.{Over}
 use Rattle.fires.proofs.shading.shaded.ShadedFire.reading_at.Needs as need
 
@@ -16,7 +17,7 @@ pub mul-flux : need.mul-flux
 mul-flux g c =
     let answers = g .F·Fire·met .answers (c .args .self .now .below) in
     let told = flux-told _ _ answers (c .args .step) (c .args .temperature) _ (c .in-Flux .ensures tt) in
-    widened-fits _ _ told (c .args .self .now .shading .most)
+    widened-fits _ _ told (omega (arith, c .args .self .now .shading .most))
 
 module _ (g : Over) (c : need.After-rounded-up g) where
   told : Within 400000 (c .in-Flux .flux)
@@ -27,7 +28,7 @@ module _ (g : Over) (c : need.After-rounded-up g) where
   rounded : c .rounded-up .result ≡ roundedUp (c .in-Flux .flux *ℤ pos (c .args .self .now .shading .thousandths)) 1000
   rounded =
       c .rounded-up .ensures .value
-      ∙ ap (λ (z : ℤ). roundedUp z 1000) (widened-product _ _ told (c .args .self .now .shading .most))
+      ∙ ap (λ (z : ℤ). roundedUp z 1000) (widened-product _ _ told (omega (arith, c .args .self .now .shading .most)))
 
   within : Within 400000 (c .rounded-up .result)
   within = rw rounded (shaded-within _ _ told (c .args .self .now .shading .most))
