@@ -1,0 +1,12 @@
+pub mod Alike
+pub mod First
+pub mod Courses
+pub mod Failing
+pub mod Heats
+pub mod Settled
+pub mod Stopped
+pub mod Tallies
+pub mod Runs
+pub mod Running
+pub mod Lawful
+pub mod Outlasting

@@ -1,0 +1,12 @@
+pub mod Refusal
+pub mod Columns
+pub mod Parts
+pub mod Heating
+pub mod Questions
+pub mod Course
+pub mod Answers
+pub mod Views
+pub mod Calls
+pub mod Tally
+pub mod Law
+pub mod Logs
