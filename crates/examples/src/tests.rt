@@ -32,6 +32,10 @@ use steels::Refusal as SteelRefusal;
 use steels::RefusalDebug as SteelRefusalDebug;
 use steels::RefusalPartialEq as SteelRefusalPartialEq;
 use steels::Steel;
+use trial::Refusal as SheetRefusal;
+use trial::RefusalDebug as SheetRefusalDebug;
+use trial::RefusalPartialEq as SheetRefusalPartialEq;
+use trial::Sheet;
 
 #[test]
 fn rounds_up_on_both_sides_of_zero() -> Result<(), Fail> {
@@ -150,4 +154,35 @@ fn the_smallest_number_is_given() -> Result<(), Fail> {
         return Err(Fail::new("accepted"));
     };
     check_eq(refusal.number(), 2)
+}
+
+// Two steps of 10,000 W/m² and one of −30, for the strut.
+fn short_trial() -> Result<Sheet<Carbon, GaugeRecord>, Fail> {
+    let mut record = GaugeRecord::new();
+    record.read(&[0x03, 0xe8, 0x03, 0xe8, 0xff, 0xfd])?;
+    let strut = Member::new(figures(5, Some(2_000_000)))?;
+    Ok(Sheet::new(strut, Carbon::new(), record))
+}
+
+#[test]
+fn a_sheet_heats_and_takes_back() -> Result<(), Fail> {
+    let mut sheet = short_trial()?;
+    check_eq(sheet.heat(3), (3, 0))?;
+    check_eq(sheet.temperature_at(3), Some(25_783))?;
+    check_eq(sheet.hottest(), 25_791)?;
+    check_eq(sheet.back(1), Ok(()))?;
+    check_eq(sheet.standing(), 2)?;
+    check_eq(sheet.back(3), Err(SheetRefusal::BackBeyondStart))?;
+    check_eq(sheet.heat(5), (1, 14))?;
+    check_eq(sheet.temperature_at(4), None)
+}
+
+#[test]
+fn a_sheet_judges_its_load() -> Result<(), Fail> {
+    let mut sheet = short_trial()?;
+    check_eq(sheet.load(300_000), Ok(()))?;
+    check_eq(sheet.critical_temperature(), 569)?;
+    check_eq(sheet.load(1_000_000), Err(SheetRefusal::NotCarriedCold))?;
+    check_eq(sheet.critical_temperature(), 569)?;
+    check_eq(sheet.first_failing(), None)
 }

@@ -17,4 +17,4 @@ parted : (k : Option ℕ) (load c : ℕ) → 20 ≤ c + 1 → c ≤ 1200 → pas
 parted k load c least most here above = critical-at (s235 k) (carbonFactor Strength) (carbonFactor Stiffness) load (carbon-factor Strength) (carbon-factor Stiffness) c least most (λ _. here) (λ _. above)
 
 pub returns : need.returns
-returns c = (refl, refl, refl, refl, refl, refl, refl, refl, refl, parted None 500000 590 (omega arith) (omega arith) refl refl, parted None 1000000 400 (omega arith) (omega arith) refl refl, refl, parted (Some 2000000) 300000 569 (omega arith) (omega arith) refl refl, refl)
+returns c = (refl, refl, refl, refl, refl, refl, refl, refl, refl, refl, refl, parted None 500000 590 (omega arith) (omega arith) refl refl, parted None 1000000 400 (omega arith) (omega arith) refl refl, refl, parted (Some 2000000) 300000 569 (omega arith) (omega arith) refl refl, refl)
