@@ -8,7 +8,7 @@ use crate::column::Column;
 
 impl Column {
     // Step 0 alone, cold.
-    pub fn cold() -> Column
+    pub(crate) fn cold() -> Column
         ensures standing { λ r. ⌜ stepsOf r ≡ 0 ⌝ }
         ensures start { λ r. ⌜ temperatureOf r 0 ≡ 20000 ⌝ }
     {
@@ -18,20 +18,20 @@ impl Column {
         }
     }
 
-    pub fn standing(&self) -> usize
+    pub(crate) fn standing(&self) -> usize
         ensures { λ r. ⌜ r ≡ stepsOf (now (self .entry)) ⌝ }
     {
         self.standing
     }
 
     // The temperature of the last standing step.
-    pub fn last(&self) -> u32
+    pub(crate) fn last(&self) -> u32
         ensures { λ r. ⌜ r ≡ temperatureOf (now (self .entry)) (stepsOf (now (self .entry))) ⌝ }
     {
         self.temperatures[self.standing]
     }
 
-    pub fn at(&self, step: usize) -> Option<u32>
+    pub(crate) fn at(&self, step: usize) -> Option<u32>
         ensures { λ r. ⌜ r ≡ temperatureAt (temperatureOf (now (self .entry))) (stepsOf (now (self .entry))) step ⌝ }
     {
         if step <= self.standing {
@@ -42,7 +42,7 @@ impl Column {
     }
 
     // One step more.
-    pub fn add(&mut self, temperature: u32)
+    pub(crate) fn add(&mut self, temperature: u32)
         requires { ⌜ stepsOf (now self) < 4096 ⌝ ∗ ⌜ 20000 ≤ temperature ⌝ ∗ ⌜ temperature ≤ 1200000 ⌝ }
         ensures standing { λ _. ⌜ stepsOf (now (self .exit)) ≡ stepsOf (now (self .entry)) + 1 ⌝ }
         ensures new { λ _. ⌜ temperatureOf (now (self .exit)) (stepsOf (now (self .entry)) + 1) ≡ temperature ⌝ }
@@ -53,7 +53,7 @@ impl Column {
     }
 
     // Takes the last steps away.
-    pub fn cut(&mut self, steps: usize)
+    pub(crate) fn cut(&mut self, steps: usize)
         requires { ⌜ steps ≤ stepsOf (now self) ⌝ }
         ensures standing { λ _. ⌜ stepsOf (now (self .exit)) ≡ stepsOf (now (self .entry)) - steps ⌝ }
         ensures kept { λ _. ⌜ ((k : ℕ) → temperatureOf (now (self .exit)) k ≡ temperatureOf (now (self .entry)) k) ⌝ }
@@ -62,7 +62,7 @@ impl Column {
     }
 
     // The highest temperature of a standing step.
-    pub fn hottest(&self) -> u32
+    pub(crate) fn hottest(&self) -> u32
         ensures { λ r. ⌜ r ≡ hottest (temperatureOf (now (self .entry))) (stepsOf (now (self .entry))) ⌝ }
     {
         let mut highest = self.temperatures[0];
@@ -73,7 +73,7 @@ impl Column {
     }
 
     // The first standing step above a temperature.
-    pub fn first_above(&self, limit: u32) -> Option<usize>
+    pub(crate) fn first_above(&self, limit: u32) -> Option<usize>
         ensures { λ r. ⌜ r ≡ first (λ k. ltb limit (temperatureOf (now (self .entry)) k)) (stepsOf (now (self .entry)) + 1) ⌝ }
     {
         for step in 0..self.standing + 1 {
