@@ -1,4 +1,6 @@
 // One fire test from the cold member to the end of its record: every call of the sheet and what it answers.
+#![tactic(auto)]
+
 mod record;
 mod words;
 

@@ -1,4 +1,6 @@
 // The member and its check: whether it carries a load at a degree, and up to which degree it does.
+#![tactic(auto)]
+
 mod checked;
 mod demand;
 mod input;

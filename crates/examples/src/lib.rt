@@ -1,4 +1,6 @@
 // Examples worked out by hand, shown of the rules themselves, and tests that run the code on examples.
+#![tactic(auto)]
+
 ghost use Rattle.examples.specs.Worked.{WorkedFigures};
 
 #[cfg(test)]

@@ -1,4 +1,6 @@
 // Fires by their meaning: the net heat flux into the steel, step by step.
+#![tactic(auto)]
+
 mod gas;
 mod gauge;
 mod meaning;

@@ -1,4 +1,6 @@
 // Whole-number quotients rounded up, for gains and losses alike.
+#![tactic(auto)]
+
 ghost use Rattle.std.specs.Prelude.{◌≡◌, ◌+◌, ◌/◌, ◌%◌, ◌<◌, min};
 ghost use Rattle.rounding.specs.Quotient.{AlwaysLeast, RoundedUp, rounded_up};
 

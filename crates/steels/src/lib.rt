@@ -1,4 +1,6 @@
 // Steels by their meaning: reduction factors and heat capacity of every whole degree.
+#![tactic(auto)]
+
 mod cap;
 mod carbon;
 mod meaning;

@@ -1,4 +1,6 @@
 // The text of a trial: lines to calls, answers to lines, in carbon steel and with a gauge record.
+#![tactic(auto)]
+
 mod entry;
 mod number;
 mod reply;

@@ -1,4 +1,6 @@
 // The sheet of one member in a fire: the steps that stand, heating, taking back, loads, questions, and the law over whole runs.
+#![tactic(auto)]
+
 mod call;
 mod column;
 mod log;

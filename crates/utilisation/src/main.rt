@@ -1,4 +1,6 @@
 // Critical temperatures by degree of utilisation beside EN 1993-1-2, Table 4.1, and the net heat flux of gas onto steel.
+#![tactic(auto)]
+
 ghost use Rattle.std.specs.Prelude.{◌≡◌, ◌*◌, IfOk};
 ghost use Rattle.examples.specs.Worked.{s235};
 ghost use Rattle.check.specs.Check.{critical_of};

@@ -13,8 +13,8 @@ loop-call-preserved g c = λ p calls h.
     (c.call.ensures.law p _ (c.loop-call.invariant p calls h).follows).1
 
 -- an error promises nothing
-pub returns-in-err-println : goal.returns-in-err-println
-returns-in-err-println g c = IfOk-from_err _ _ c.from-residual.ensures.0
+pub returns-in_err-println : goal.returns-in_err-println
+returns-in_err-println g c = IfOk-from_err _ _ c.from_residual.ensures.0
 
 pub returns : goal.returns
 returns g c = λ p calls h. rw (← take_all c.loop-call.call-index c.args.script.now c.loop-call-test.false) (c.loop-call.invariant p calls h)

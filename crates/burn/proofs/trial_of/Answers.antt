@@ -28,16 +28,16 @@ parts_are m s g phases figures bytes = λ i. record {
 }
 
 -- an error promises nothing
-pub returns-in-err-fire : goal.returns-in-err-fire
-returns-in-err-fire g c = IfOk-from_err _ _ c.from-residual.ensures.0
+pub returns-in_err-fire : goal.returns-in_err-fire
+returns-in_err-fire g c = IfOk-from_err _ _ c.from_residual.ensures.0
 
-pub returns-in-err-strut : goal.returns-in-err-strut
-returns-in-err-strut g c = IfOk-from_err _ _ c.from-residual-in-err-strut.ensures.0
+pub returns-in_err-strut : goal.returns-in_err-strut
+returns-in_err-strut g c = IfOk-from_err _ _ c.from_residual-in_err-strut.ensures.0
 
-pub returns-in-err-play : goal.returns-in-err-play
-returns-in-err-play g c = IfOk-from_err _ _ c.from-residual-in-err-play.ensures.0
+pub returns-in_err-play : goal.returns-in_err-play
+returns-in_err-play g c = IfOk-from_err _ _ c.from_residual-in_err-play.ensures.0
 
 pub returns : goal.returns
 returns g c =
-    let same = parts_are c.in-ok-strut.field-0 _ c.in-ok-fire.fire _ c.in-ok-strut.ensures c.in-ok-fire.ensures in
-    subst (λ p. Law p c.args.script.now (seen c.play.new.sheet)) same (c.in-ok-play.ensures _ [] c.new-sheet.ensures.law)
+    let same = parts_are c.in_ok-strut.field-0 _ c.in_ok-fire.fire _ c.in_ok-strut.ensures c.in_ok-fire.ensures in
+    subst (λ p. Law p c.args.script.now (seen c.play.new.sheet)) same (c.in_ok-play.ensures _ [] c.new-sheet.ensures.law)

@@ -12,13 +12,13 @@ answer n d r positive fits e =
 
 pub returns-then-n-lt0 : goal.returns-then-n-lt0
 returns-then-n-lt0 c =
-    let size : c.unsigned-abs-size.result ≡ nat_abs c.args.n = c.unsigned-abs-size.ensures.value ∙ ap nat_abs (to_z-of_z w64 c.args.n c.ranges.n) in
-    let wraps = subst (λ (q : ℕ). (c.wrapping-neg.result + q) % 2 ^ 64 ≡ 0) (c.times-whole.ensures ∙ ap (λ s. s / c.args.d) size) c.wrapping-neg.ensures in
-    answer c.args.n c.args.d c.cast-signed.result c.requires c.cast-signed.type-inv
-    (c.cast-signed.ensures ∙ loss c.args.n c.args.d c.wrapping-neg.result (omega (arith, ints)) (omega (arith, size)) c.wrapping-neg.type-inv wraps)
+    let size : c.unsigned_abs-size.result ≡ nat_abs c.args.n = c.unsigned_abs-size.ensures.value ∙ ap nat_abs (to_z-of_z w64 c.args.n c.ranges.n) in
+    let wraps = subst (λ (q : ℕ). (c.wrapping_neg.result + q) % 2 ^ 64 ≡ 0) (c.times_whole.ensures ∙ ap (λ s. s / c.args.d) size) c.wrapping_neg.ensures in
+    answer c.args.n c.args.d c.cast_signed.result c.requires c.cast_signed.type_inv
+    (c.cast_signed.ensures ∙ loss c.args.n c.args.d c.wrapping_neg.result (omega (arith, ints)) (omega (arith, size)) c.wrapping_neg.type_inv wraps)
 
 pub returns-else-n-lt0 : goal.returns-else-n-lt0
 returns-else-n-lt0 c =
-    let size : c.unsigned-abs-size.result ≡ nat_abs c.args.n = c.unsigned-abs-size.ensures.value ∙ ap nat_abs (to_z-of_z w64 c.args.n c.ranges.n) in
-    answer c.args.n c.args.d c.cast-signed-else-n-lt0.result c.requires c.cast-signed-else-n-lt0.type-inv
-    (c.cast-signed-else-n-lt0.ensures ∙ gain c.args.n c.args.d c.times-begun.result (omega arith) (omega (arith, ints)) c.ranges.n.sfits (c.times-begun.ensures ∙ ap (λ s. s / c.args.d + min 1 (s % c.args.d)) size))
+    let size : c.unsigned_abs-size.result ≡ nat_abs c.args.n = c.unsigned_abs-size.ensures.value ∙ ap nat_abs (to_z-of_z w64 c.args.n c.ranges.n) in
+    answer c.args.n c.args.d c.cast_signed-else-n-lt0.result c.requires c.cast_signed-else-n-lt0.type_inv
+    (c.cast_signed-else-n-lt0.ensures ∙ gain c.args.n c.args.d c.times_begun.result (omega arith) (omega (arith, ints)) c.ranges.n.sfits (c.times_begun.ensures ∙ ap (λ s. s / c.args.d + min 1 (s % c.args.d)) size))

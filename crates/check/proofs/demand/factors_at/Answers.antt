@@ -1,8 +1,8 @@
 use Rattle.std.proofs.Common.{rules}
 use Rattle.check.proofs.demand.factors_at.Goals as goal
 
-pub invariant-of-result : goal.invariant-of-result
-invariant-of-result g c =
+pub invariant_of-result : goal.invariant_of-result
+invariant_of-result g c =
     let y = (g.met.S.Steel.strength_law c.args.steel.now).most in
     let z = (g.met.S.Steel.stiffness_law c.args.steel.now).most in
     (search (rules, y), (search (rules, z), tt))

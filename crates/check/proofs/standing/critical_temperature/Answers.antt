@@ -8,15 +8,15 @@ use Rattle.check.proofs.standing.critical_temperature.Goals as goal
 answered : (b : Bool) (y z : ℕ → ℕ) (m n : Member) (load load' d : ℕ) → b ≡ passes_at (figures_of m) y z load d → m ≡ n → load ≡ load' → passes_at (figures_of n) y z load' d ≡ b
 answered b y z m n load load' d e same_member same_Load = cc
 
-pub loop-high-preserved-then-passes-at : goal.loop-high-preserved-then-passes-at
-loop-high-preserved-then-passes-at g c =
+pub loop-high-preserved-then-passes_at : goal.loop-high-preserved-then-passes_at
+loop-high-preserved-then-passes_at g c =
     let steel = c.args.steel.now in
     let y = g.S.Steel.strength steel in
     let z = g.S.Steel.stiffness steel in
     let demand = c.of-demand in
     raised _ (passes_fades (figures_of c.args.member.now) y z c.args.load (g.met.S.Steel.strength_law steel) (g.met.S.Steel.stiffness_law steel))
     20 1200 c.loop-high.low c.loop-high.high c.loop-high.invariant c.loop-high-test.true
-    (answered _ y z demand.result.member c.args.member.now demand.result.load c.args.load _ c.if-passes-at.ensures.value demand.ensures.member demand.ensures.load)
+    (answered _ y z demand.result.member c.args.member.now demand.result.load c.args.load _ c.if-passes_at.ensures.value demand.ensures.member demand.ensures.load)
 
 pub loop-high-preserved : goal.loop-high-preserved
 loop-high-preserved g c =
@@ -26,7 +26,7 @@ loop-high-preserved g c =
     let demand = c.of-demand in
     lowered _ (passes_fades (figures_of c.args.member.now) y z c.args.load (g.met.S.Steel.strength_law steel) (g.met.S.Steel.stiffness_law steel))
     20 1200 c.loop-high.low c.loop-high.high c.loop-high.invariant c.loop-high-test.true
-    (answered _ y z demand.result.member c.args.member.now demand.result.load c.args.load _ c.if-passes-at.ensures.value demand.ensures.member demand.ensures.load)
+    (answered _ y z demand.result.member c.args.member.now demand.result.load c.args.load _ c.if-passes_at.ensures.value demand.ensures.member demand.ensures.load)
 
 pub returns : goal.returns
 returns g c =

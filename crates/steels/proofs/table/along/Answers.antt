@@ -7,13 +7,13 @@ use Rattle.steels.proofs.table.along.Goals as goal
 pub returns-then-degree-to : goal.returns-then-degree-to
 returns-then-degree-to g c =
     c.interpolated.ensures
-    ∙ (stops g.P.Tabled.row c.args.column c.loop-next.from c.args.rest.now c.loop-next.next-index c.next-item.result c.to-row-to.result c.args.degree c.loop-next-test.true c.next-item.is c.to-row-to.ensures c.if-degree-to.true
+    ∙ (stops g.P.Tabled.row c.args.column c.loop-next.from c.args.rest.now c.loop-next.next-index c.next-item.result c.to_row-to.result c.args.degree c.loop-next-test.true c.next-item.is c.to_row-to.ensures c.if-degree-to.true
     ∙ c.loop-next.invariant.1)
 
 pub loop-next-preserved : goal.loop-next-preserved
 loop-next-preserved g c = (
   omega arith,
-  goes g.P.Tabled.row c.args.column c.loop-next.from c.args.rest.now c.loop-next.next-index c.next-item.result c.to-row-to.result c.args.degree c.loop-next-test.true c.next-item.is c.to-row-to.ensures c.if-degree-to.false
+  goes g.P.Tabled.row c.args.column c.loop-next.from c.args.rest.now c.loop-next.next-index c.next-item.result c.to_row-to.result c.args.degree c.loop-next-test.true c.next-item.is c.to_row-to.ensures c.if-degree-to.false
       ∙ c.loop-next.invariant.1,
 )
 

@@ -4,14 +4,14 @@ use Rattle.std.proofs.lemmas.List.{take_all}
 use Rattle.text.proofs.Digits.{digit_here, digits_on, room, small, value_on}
 use Rattle.text.proofs.number.digits_value.Goals as goal
 
-pub overflow-mul-value : goal.overflow-mul-value
-overflow-mul-value c = omega (arith, c.loop-digit.invariant.0, room c.args.digits.now c.loop-digit.digit-index c.requires.1 c.loop-digit-test.true c.requires.0 c.loop-digit.invariant.1)
+pub overflow_mul-value : goal.overflow_mul-value
+overflow_mul-value c = omega (arith, c.loop-digit.invariant.0, room c.args.digits.now c.loop-digit.digit-index c.requires.1 c.loop-digit-test.true c.requires.0 c.loop-digit.invariant.1)
 
-pub overflow-sub-value : goal.overflow-sub-value
-overflow-sub-value c = (digit_here c.args.digits.now c.loop-digit.digit-index c.requires.1 c.loop-digit-test.true).0
+pub overflow_sub-value : goal.overflow_sub-value
+overflow_sub-value c = (digit_here c.args.digits.now c.loop-digit.digit-index c.requires.1 c.loop-digit-test.true).0
 
-pub overflow-add-value : goal.overflow-add-value
-overflow-add-value c =
+pub overflow_add-value : goal.overflow_add-value
+overflow_add-value c =
     let h = digit_here c.args.digits.now c.loop-digit.digit-index c.requires.1 c.loop-digit-test.true in
     omega (arith, c.loop-digit.invariant.0, room c.args.digits.now c.loop-digit.digit-index c.requires.1 c.loop-digit-test.true c.requires.0 c.loop-digit.invariant.1)
 

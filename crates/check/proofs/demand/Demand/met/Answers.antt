@@ -13,17 +13,17 @@ asked c =
     let m : d.buckling ≤ 10001 = omega (arith, kept_buckling_most d.load f.buckling_load) in
     omega (arith, mul-le-mul (mul-le-mul a n) m)
 
-pub overflow-mul-result-then-enough : goal.overflow-mul-result-then-enough
-overflow-mul-result-then-enough c = omega (arith, asked c)
+pub overflow_mul-result-then-enough : goal.overflow_mul-result-then-enough
+overflow_mul-result-then-enough c = omega (arith, asked c)
 
-pub overflow-mul-result-then-enough-2 : goal.overflow-mul-result-then-enough-2
-overflow-mul-result-then-enough-2 c = omega (arith, mul-le-mul (asked c) c.args.factors.strength_most)
+pub overflow_mul-result-then-enough-2 : goal.overflow_mul-result-then-enough-2
+overflow_mul-result-then-enough-2 c = omega (arith, mul-le-mul (asked c) c.args.factors.strength_most)
 
-pub overflow-mul-result-then-enough-3 : goal.overflow-mul-result-then-enough-3
-overflow-mul-result-then-enough-3 c = omega (arith, mul-le-mul (mul-le-mul (asked c) c.args.factors.strength_most) c.args.factors.stiffness_most)
+pub overflow_mul-result-then-enough-3 : goal.overflow_mul-result-then-enough-3
+overflow_mul-result-then-enough-3 c = omega (arith, mul-le-mul (mul-le-mul (asked c) c.args.factors.strength_most) c.args.factors.stiffness_most)
 
-pub overflow-mul-result-then-enough-7 : goal.overflow-mul-result-then-enough-7
-overflow-mul-result-then-enough-7 c =
-    let u : c.saturating-sub-u.result ≤ 10000 = omega arith in
-    let v : c.saturating-sub-v.result ≤ 10000 = omega arith in
+pub overflow_mul-result-then-enough-7 : goal.overflow_mul-result-then-enough-7
+overflow_mul-result-then-enough-7 c =
+    let u : c.saturating_sub-u.result ≤ 10000 = omega arith in
+    let v : c.saturating_sub-v.result ≤ 10000 = omega arith in
     omega (arith, mul-le-mul (mul-le-mul u u) (mul-le-mul v v))

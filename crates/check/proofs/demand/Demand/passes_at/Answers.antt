@@ -7,7 +7,7 @@ use Rattle.check.proofs.demand.Demand.passes_at.Goals as goal
 pub returns : goal.returns
 returns g c =
     let d = c.args.self.now in
-    let factors = c.factors-at.result in
+    let factors = c.factors_at.result in
     let held = reckoned (figures_of d.member) d.load d.imperfection d.strength d.buckling factors.strength factors.stiffness
     d.strength_is d.buckling_is d.imperfection_is (omega arith) (omega arith) factors.strength_most factors.stiffness_most in
     record {

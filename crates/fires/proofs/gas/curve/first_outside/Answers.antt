@@ -4,13 +4,13 @@ use Rattle.fires.specs.Gas.{outside_from}
 use Rattle.fires.proofs.GasFaults.{goes, stops}
 use Rattle.fires.proofs.gas.curve.first_outside.Goals as goal
 
-pub returns-then-not-is-gas-degree : goal.returns-then-not-is-gas-degree
-returns-then-not-is-gas-degree c =
-    stops c.args.temperatures.now c.loop-step.step (omega arith) (sym c.if-not-is-gas-degree.ensures) ∙ c.loop-step.invariant
+pub returns-then-not-is_gas_degree : goal.returns-then-not-is_gas_degree
+returns-then-not-is_gas_degree c =
+    stops c.args.temperatures.now c.loop-step.step (omega arith) (sym c.if-not-is_gas_degree.ensures) ∙ c.loop-step.invariant
 
 pub loop-step-preserved : goal.loop-step-preserved
 loop-step-preserved c =
-    goes c.args.temperatures.now c.loop-step.step (omega arith) (sym c.if-not-is-gas-degree.ensures) ∙ c.loop-step.invariant
+    goes c.args.temperatures.now c.loop-step.step (omega arith) (sym c.if-not-is_gas_degree.ensures) ∙ c.loop-step.invariant
 
 pub returns : goal.returns
 returns c =

@@ -14,17 +14,17 @@ module _ (c : goal.After-radiation) where
   radiated =
       c.radiation.ensures
       ∙ ap (λ (z : ℤ). rounded_up (pos 3969 *ℤ z) 100_000_000_000)
-      (powers_apart _ _ _ _ c.fourth-power.ensures c.fourth-power-2.ensures
+      (powers_apart _ _ _ _ c.fourth_power.ensures c.fourth_power-2.ensures
       (fourth_most c.args.gas c.requires.0.1) (fourth_most c.args.steel c.requires.1.1))
 
   within : Within 200000 c.radiation.result
   within = rw radiated (radiation_within c.args.gas c.args.steel c.requires.0 c.requires.1)
 
-pub overflow-add-result : goal.overflow-add-result
-overflow-add-result c = omega (arith, ints, within c)
+pub overflow_add-result : goal.overflow_add-result
+overflow_add-result c = omega (arith, ints, within c)
 
-pub overflow-cast-result : goal.overflow-cast-result
-overflow-cast-result c = omega (arith, ints, within c)
+pub overflow_cast-result : goal.overflow_cast-result
+overflow_cast-result c = omega (arith, ints, within c)
 
 pub returns : goal.returns
 returns c =

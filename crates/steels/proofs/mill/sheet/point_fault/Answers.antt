@@ -4,17 +4,17 @@ use Rattle.steels.specs.Mill.{point_fault}
 use Rattle.steels.specs.Points.{goes_on, stops_at_degree, stops_at_figure}
 use Rattle.steels.proofs.mill.sheet.point_fault.Goals as goal
 
-pub returns-then-not-degree-fits : goal.returns-then-not-degree-fits
-returns-then-not-degree-fits c =
-    stops_at_degree c.args.points.now c.loop-i.i _ c.loop-i.before (omega arith) (sym c.if-not-degree-fits.ensures) ∙ c.loop-i.invariant
+pub returns-then-not-degree_fits : goal.returns-then-not-degree_fits
+returns-then-not-degree_fits c =
+    stops_at_degree c.args.points.now c.loop-i.i _ c.loop-i.before (omega arith) (sym c.if-not-degree_fits.ensures) ∙ c.loop-i.invariant
 
-pub returns-then-not-figures-fit : goal.returns-then-not-figures-fit
-returns-then-not-figures-fit c =
-    stops_at_figure c.args.points.now c.loop-i.i _ c.loop-i.before (omega arith) (sym c.if-not-degree-fits.ensures) (sym c.if-not-figures-fit.ensures) ∙ c.loop-i.invariant
+pub returns-then-not-figures_fit : goal.returns-then-not-figures_fit
+returns-then-not-figures_fit c =
+    stops_at_figure c.args.points.now c.loop-i.i _ c.loop-i.before (omega arith) (sym c.if-not-degree_fits.ensures) (sym c.if-not-figures_fit.ensures) ∙ c.loop-i.invariant
 
 pub loop-i-preserved : goal.loop-i-preserved
 loop-i-preserved c =
-    goes_on c.args.points.now c.loop-i.i _ c.loop-i.before (omega arith) (sym c.if-not-degree-fits.ensures) (sym c.if-not-figures-fit.ensures) ∙ c.loop-i.invariant
+    goes_on c.args.points.now c.loop-i.i _ c.loop-i.before (omega arith) (sym c.if-not-degree_fits.ensures) (sym c.if-not-figures_fit.ensures) ∙ c.loop-i.invariant
 
 pub returns : goal.returns
 returns c =

@@ -7,12 +7,12 @@ use Rattle.text.proofs.reply.Reply.+push_number.Goals as goal
 pub push-requires : goal.push-requires
 push-requires t c = omega (arith, c.requires, length_digit c.args.number c.if-number-lt10.true)
 
-pub push-number-requires : goal.push-number-requires
-push-number-requires t c = (search rules, omega (arith, c.requires, length_step c.args.number c.if-number-lt10.false (search rules)))
+pub push_number-requires : goal.push_number-requires
+push_number-requires t c = (search rules, omega (arith, c.requires, length_step c.args.number c.if-number-lt10.false (search rules)))
 
 pub push-requires-else-number-lt10 : goal.push-requires-else-number-lt10
 push-requires-else-number-lt10 t c =
-    omega (arith, c.requires, c.push-number.ensures.size, length_step c.args.number c.if-number-lt10.false (search rules))
+    omega (arith, c.requires, c.push_number.ensures.size, length_step c.args.number c.if-number-lt10.false (search rules))
 
 pub returns-then-number-lt10 : goal.returns-then-number-lt10
 returns-then-number-lt10 t c = record {
@@ -22,6 +22,6 @@ returns-then-number-lt10 t c = record {
 
 pub returns-else-number-lt10 : goal.returns-else-number-lt10
 returns-else-number-lt10 t c = record {
-  text = spelled c.args.number _ _ _ c.if-number-lt10.false (search rules) c.push-number.ensures.text c.push-else-number-lt10.ensures.text;
-  size = omega (arith, c.push-number.ensures.size, c.push-else-number-lt10.ensures.size, length_step c.args.number c.if-number-lt10.false (search rules));
+  text = spelled c.args.number _ _ _ c.if-number-lt10.false (search rules) c.push_number.ensures.text c.push-else-number-lt10.ensures.text;
+  size = omega (arith, c.push_number.ensures.size, c.push-else-number-lt10.ensures.size, length_step c.args.number c.if-number-lt10.false (search rules));
 }

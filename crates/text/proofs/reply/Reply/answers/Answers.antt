@@ -6,7 +6,7 @@ use Rattle.text.proofs.reply.Reply.answers.Goals as goal
 
 pub loop-answer-preserved : goal.loop-answer-preserved
 loop-answer-preserved c = (
-  field_more fields_of (c.args.letter ∷ []) c.args.answers.now c.loop-answer.answer-index (Heated 0 0) _ _ c.loop-answer-test.true c.loop-answer.invariant.0 c.push-answer.ensures.text,
+  field_more fields_of (c.args.letter ∷ []) c.args.answers.now c.loop-answer.answer-index (Heated 0 0) _ _ c.loop-answer-test.true c.loop-answer.invariant.0 c.push_answer.ensures.text,
   search rules,
 )
 

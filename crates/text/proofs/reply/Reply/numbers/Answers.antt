@@ -5,7 +5,7 @@ use Rattle.text.proofs.reply.Reply.numbers.Goals as goal
 
 pub loop-number-preserved : goal.loop-number-preserved
 loop-number-preserved c = (
-  field_more told (c.args.letter ∷ []) c.args.numbers.now c.loop-number.number-index 0 _ _ c.loop-number-test.true c.loop-number.invariant.0 c.push-field.ensures.text,
+  field_more told (c.args.letter ∷ []) c.args.numbers.now c.loop-number.number-index 0 _ _ c.loop-number-test.true c.loop-number.invariant.0 c.push_field.ensures.text,
   search rules,
 )
 

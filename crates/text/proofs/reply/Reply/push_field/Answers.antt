@@ -3,11 +3,11 @@ use Rattle.text.specs.Replies.{text_of}
 use Rattle.text.proofs.Spelling.{both, length_most}
 use Rattle.text.proofs.reply.Reply.push_field.Goals as goal
 
-pub push-number-requires : goal.push-number-requires
-push-number-requires c = omega (arith, c.requires, c.push.ensures.size, length_most c.args.number (search rules))
+pub push_number-requires : goal.push_number-requires
+push_number-requires c = omega (arith, c.requires, c.push.ensures.size, length_most c.args.number (search rules))
 
 pub returns : goal.returns
 returns c = record {
-  text = both (text_of c.args.self.now) _ _ (44 ∷ []) (decimal c.args.number) c.push.ensures.text c.push-number.ensures.text;
-  size = omega (arith, c.push.ensures.size, c.push-number.ensures.size, length_most c.args.number (search rules));
+  text = both (text_of c.args.self.now) _ _ (44 ∷ []) (decimal c.args.number) c.push.ensures.text c.push_number.ensures.text;
+  size = omega (arith, c.push.ensures.size, c.push_number.ensures.size, length_most c.args.number (search rules));
 }

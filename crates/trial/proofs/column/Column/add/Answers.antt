@@ -9,8 +9,8 @@ each_more P xs n v room here below k le =
     ⊎_elim (λ (l : k < n + 1). subst P (sym (get_or-set_other xs (n + 1) k v 0 (λ e. omega arith))) (below k (omega arith)))
     (λ (u : n + 1 ≤ k). let e : k ≡ n + 1 = omega arith in rw e (subst P (sym (get_or-set_same xs (n + 1) v 0 room)) here)) (cases_lt k (n + 1))
 
-pub invariant-of-self : goal.invariant-of-self
-invariant-of-self c =
+pub invariant_of-self : goal.invariant_of-self
+invariant_of-self c =
     let column = c.args.self.now in
     let n = column.standing in
     let room : n + 1 < length column.temperatures = search rules in (

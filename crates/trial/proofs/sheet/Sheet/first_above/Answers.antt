@@ -10,6 +10,6 @@ returns g c =
     let sheet = c.args.self.now in
     let v = view_of g.S.Steel g.F.Fire sheet in
     let above = fails_above v.parts v.load (g.met.S.Steel.strength_law sheet.steel) (g.met.S.Steel.stiffness_law sheet.steel) in
-    c.first-above.ensures
+    c.first_above.ensures
     ∙ first_same _ _ (v.standing + 1) (λ k l. ap (λ m. ltb m (v.temperature k)) c.requires ∙ sym (above (v.temperature k) (sheet.column.least k (omega arith)) (sheet.column.most k (omega arith))))
     ∙ ap (first (λ k. fails v.parts v.load (v.temperature k))) (omega arith)

@@ -3,9 +3,9 @@ use Rattle.trial.specs.Views.{view_of}
 use Rattle.trial.proofs.Failing.{critical_in_parts}
 use Rattle.trial.proofs.sheet.Sheet.limit.Goals as goal
 
-pub overflow-mul-result : goal.overflow-mul-result
-overflow-mul-result g c =
+pub overflow_mul-result : goal.overflow_mul-result
+overflow_mul-result g c =
     let sheet = c.args.self.now in
     let v = view_of g.S.Steel g.F.Fire sheet in
     let parted = critical_in_parts v.parts v.load (g.met.S.Steel.strength_law sheet.steel) (g.met.S.Steel.stiffness_law sheet.steel) in
-    omega (arith, parted.most, c.critical-temperature.ensures)
+    omega (arith, parted.most, c.critical_temperature.ensures)

@@ -12,16 +12,16 @@ use Rattle.trial.proofs.sheet.heating.rise.Goals as goal
 few : (m : Member) (x : ℕ) → x ≡ (figures_of m).section_factor * (figures_of m).seconds * 1000 → x ≤ 2500000
 few m x e = omega (arith, mul-le _ _ 500 5 m.section_most m.seconds_most)
 
-pub overflow-mul-flux : goal.overflow-mul-flux
-overflow-mul-flux c = widened_fits _ _ c.requires.1.1 (omega (arith, few c.args.member.now _ c.exposure.ensures))
+pub overflow_mul-flux : goal.overflow_mul-flux
+overflow_mul-flux c = widened_fits _ _ c.requires.1.1 (omega (arith, few c.args.member.now _ c.exposure.ensures))
 
 module _ (c : goal.After-rounded-up) where
-  rounded : c.rounded-up.result ≡ rounded_up (c.args.flux *ℤ pos c.exposure.result) (c.args.capacity * 7850)
+  rounded : c.rounded_up.result ≡ rounded_up (c.args.flux *ℤ pos c.exposure.result) (c.args.capacity * 7850)
   rounded =
       let product = widened_product c.args.flux c.exposure.result c.requires.1.1 (omega (arith, few c.args.member.now _ c.exposure.ensures)) in
-      c.rounded-up.ensures.value ∙ cc
+      c.rounded_up.ensures.value ∙ cc
 
-  within : Within 1000000 c.rounded-up.result
+  within : Within 1000000 c.rounded_up.result
   within =
       subst (Within 1000000) (sym rounded)
       (rounded_within _ 1000000 (c.args.capacity * 7850) (omega (arith, c.requires.0))
@@ -29,5 +29,5 @@ module _ (c : goal.After-rounded-up) where
 
 pub returns : goal.returns
 returns c =
-    let kept = to_z-of_z w64 c.rounded-up.result (record { sfits = c.rounded-up.type-inv }) in
+    let kept = to_z-of_z w64 c.rounded_up.result (record { sfits = c.rounded_up.type_inv }) in
     record { value = kept ∙ (rounded c ∙ cc); range = subst (Within 1000000) (sym kept) (within c) }

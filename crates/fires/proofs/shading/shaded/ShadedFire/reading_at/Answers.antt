@@ -9,8 +9,8 @@ use Rattle.fires.specs.ShadedLaws.{flux_told, shaded_within}
 use Rattle.fires.proofs.shading.shaded.ShadedFire.reading_at.Given.{Over}
 use Rattle.fires.proofs.shading.shaded.ShadedFire.reading_at.Goals as goal
 
-pub overflow-mul-flux : goal.overflow-mul-flux
-overflow-mul-flux g c =
+pub overflow_mul-flux : goal.overflow_mul-flux
+overflow_mul-flux g c =
     let answers = g.met.F.Fire.answers c.args.self.now.below in
     let told = flux_told _ _ answers c.args.step c.args.temperature _ c.in-Flux.ensures in
     widened_fits _ _ told (omega (arith, c.args.self.now.shading.most))
@@ -21,19 +21,19 @@ module _ (g : Over) (c : goal.After-rounded-up g) where
       let answers = g.met.F.Fire.answers c.args.self.now.below in
       flux_told _ _ answers c.args.step c.args.temperature _ c.in-Flux.ensures
 
-  rounded : c.rounded-up.result ≡ rounded_up (c.in-Flux.flux *ℤ pos c.args.self.now.shading.thousandths) 1000
+  rounded : c.rounded_up.result ≡ rounded_up (c.in-Flux.flux *ℤ pos c.args.self.now.shading.thousandths) 1000
   rounded =
-      c.rounded-up.ensures.value
+      c.rounded_up.ensures.value
       ∙ ap (λ (z : ℤ). rounded_up z 1000) (widened_product _ _ told (omega (arith, c.args.self.now.shading.most)))
 
-  within : Within 400000 c.rounded-up.result
+  within : Within 400000 c.rounded_up.result
   within = rw rounded (shaded_within _ _ told c.args.self.now.shading.most)
 
-  narrowed : to_z w32 (of_z w32 (to_z w64 (of_z w64 c.rounded-up.result))) ≡ c.rounded-up.result
+  narrowed : to_z w32 (of_z w32 (to_z w64 (of_z w64 c.rounded_up.result))) ≡ c.rounded_up.result
   narrowed = omega (arith, ints, within)
 
-pub overflow-cast-result : goal.overflow-cast-result
-overflow-cast-result g c = omega (arith, ints, within g c)
+pub overflow_cast-result : goal.overflow_cast-result
+overflow_cast-result g c = omega (arith, ints, within g c)
 
 pub returns-in-Flux : goal.returns-in-Flux
 returns-in-Flux g c =
