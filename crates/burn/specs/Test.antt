@@ -1,6 +1,6 @@
 -- What is tested: a strut of carbon steel in a gauge record made from phases.
 use Rattle.std.specs.Prelude.{List, Some}
-use Rattle.check.specs.declared.input.Figures.{Figures}
+use Rattle.member_check.specs.declared.input.Figures.{Figures}
 use Rattle.fires.specs.Gauge.{gauge_tells}
 use Rattle.fires.specs.contracts.gauge.reading.GaugeRecordFire.TheImpl as gauge
 use Rattle.fires.specs.declared.gauge.GaugeRecord.{GaugeRecord}

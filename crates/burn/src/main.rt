@@ -5,7 +5,7 @@ mod record;
 mod words;
 
 ghost use Rattle.std.specs.Prelude.{◌≡◌, List, ◌++◌, IfOk, OnOk};
-ghost use Rattle.check.specs.Members.{figures_of};
+ghost use Rattle.member_check.specs.Members.{figures_of};
 ghost use Rattle.fires.specs.Gauge.{bytes_of};
 ghost use Rattle.trial.specs.Calls.{temperature_in};
 ghost use Rattle.trial.specs.Law.{Law};
@@ -16,8 +16,8 @@ ghost use Rattle.burn.specs.Record.{record_of};
 ghost use Rattle.burn.specs.Test.{parts_in, seen, strut_figures};
 
 use anyhow::anyhow;
-use check::{Figures, Member};
 use fires::{Fire, GaugeRecord};
+use member_check::{Figures, Member};
 use record::{Phase, record_bytes};
 use std::alloc::Global;
 use steels::{Carbon, Steel};

@@ -6,8 +6,8 @@ use Rattle.fires.specs.Gas.{gas_flux}
 use Rattle.fires.specs.Gauge.{gauge_reading}
 use Rattle.fires.specs.Shaded.{shaded_reading}
 use Rattle.fires.specs.declared.meaning.Reading.TheVariants.{Flux}
-use Rattle.check.specs.Check.{critical_of, imperfection_of, passes_at}
-use Rattle.check.specs.declared.input.Figures.{Figures}
+use Rattle.member_check.specs.Check.{critical_of, imperfection_of, passes_at}
+use Rattle.member_check.specs.declared.input.Figures.{Figures}
 use Rattle.trial.specs.Heating.{stepped}
 use Rattle.trial.specs.Parts.{Parts}
 

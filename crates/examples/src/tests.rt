@@ -1,6 +1,6 @@
 // Examples run through the code of all layers. They stand here, in a small crate, since a crate with tests is proved twice.
-use check::{Figures, Member, critical_temperature, passes};
 use fires::{Fire, GasCurve, GaugeRecord, Reading, Refusal as FireRefusal, Shaded, Shading};
+use member_check::{Figures, Member, critical_temperature, passes};
 use rounding::rounded_up;
 use std::test::Fail;
 use steels::{Cap, Capped, Carbon, MillSheet, Point, Refusal as SteelRefusal, Steel};

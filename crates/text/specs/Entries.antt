@@ -2,7 +2,7 @@
 use Rattle.std.specs.Prelude.{ℕ, ◌^◌, cond, ◌&&◌, List, length, drop, ℤ, Some, None, Option, ◌==◌, nat_le, nat_lt, slice_index}
 use Rattle.std.specs.Int.Signed.{mag}
 use Rattle.std.specs.Option.{option_map}
-use Rattle.check.specs.declared.input.Figures.{Figures}
+use Rattle.member_check.specs.declared.input.Figures.{Figures}
 use Rattle.trial.specs.declared.call.Call.TheVariants.{Heat, Back, Load}
 use Rattle.text.specs.Numbers.{field, last_field, last_signed_field, whole, ◌then◌}
 use Rattle.text.specs.declared.entry.Entry.{Entry}

@@ -1,6 +1,6 @@
 -- The trials that are read: a member of carbon steel in a gauge record.
 use Rattle.std.specs.Prelude.{ℕ, List}
-use Rattle.check.specs.declared.input.Figures.{Figures}
+use Rattle.member_check.specs.declared.input.Figures.{Figures}
 use Rattle.fires.specs.Gauge.{gauge_tells}
 use Rattle.steels.specs.Carbon.{carbon_capacity, carbon_factor}
 use Rattle.steels.specs.declared.table.Column.TheVariants.{Stiffness, Strength}

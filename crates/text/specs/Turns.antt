@@ -2,11 +2,11 @@
 -- session, and for a list of calls that no sheet has made.
 use Rattle.std.specs.Prelude.{ℕ, ◌+◌, ◌-◌, ◌^◌, min, Bool, true, false, cond, List, [], ◌∷◌, ◌++◌, is_some, Some, None, Option}
 use Rattle.std.specs.List.{flat_map}
-use Rattle.check.specs.Members.{member_fault}
-use Rattle.check.specs.declared.input.Figures.{Figures}
+use Rattle.member_check.specs.Members.{member_fault}
+use Rattle.member_check.specs.declared.input.Figures.{Figures}
 use Rattle.fires.specs.Gauge.{record_fault, word_bytes}
 use Rattle.fires.specs.Refusal as fires
-use Rattle.check.specs.Refusal as check
+use Rattle.member_check.specs.Refusal as check
 use Rattle.trial.specs.Parts.{Parts}
 use Rattle.trial.specs.declared.call.Answer.{Answer}
 use Rattle.trial.specs.declared.call.Answer.TheVariants.{Heated, Accepted, Refused, Standing, Temperature, Hottest, CriticalTemperature, FirstFailing}

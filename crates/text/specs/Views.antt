@@ -1,6 +1,6 @@
 -- A session as contracts see it.
 use Rattle.std.specs.Prelude.{◌≡◌, ℕ, ◌+◌, ◌-◌, ◌^◌, min, List}
-use Rattle.check.specs.Members.{figures_of}
+use Rattle.member_check.specs.Members.{figures_of}
 use Rattle.fires.specs.Gauge.{bytes_of}
 use Rattle.fires.specs.contracts.gauge.reading.GaugeRecordFire.TheImpl as gauge
 use Rattle.fires.specs.declared.gauge.GaugeRecord.{GaugeRecord}

@@ -6,7 +6,7 @@ ghost use Rattle.text.specs.declared.entry.Entry.TheVariants.{Question};
 
 use crate::number::{field, last_field, last_signed_field};
 use crate::stage::Stage;
-use check::Figures;
+use member_check::Figures;
 use trial::Call;
 
 // What a line says. A question asks for all that Q answers.

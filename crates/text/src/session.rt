@@ -2,8 +2,8 @@
 mod answering;
 
 use crate::stage::Stage;
-use check::Member;
 use fires::GaugeRecord;
+use member_check::Member;
 use steels::Carbon;
 use trial::Sheet;
 

@@ -3,8 +3,8 @@ use Rattle.std.proofs.Common.{◌≡◌, ℕ, ◌*◌, ◌<◌, ◌≤◌, ltb, 
 use Rattle.std.proofs.lemmas.Bool.{cases_lt, not_from_true, not_from_false, lt-ltb, le-ltb}
 use Rattle.rounding.specs.Quotient.{ceil}
 use Rattle.steels.specs.Meaning.{Factor}
-use Rattle.check.specs.Check.{Critical}
-use Rattle.check.proofs.Search.{critical_is}
+use Rattle.member_check.specs.Check.{Critical}
+use Rattle.member_check.proofs.Search.{critical_is}
 use Rattle.trial.specs.Parts.{Parts}
 use Rattle.trial.specs.Questions.{fails}
 use Rattle.trial.specs.Answers.{critical_under}

@@ -3,9 +3,9 @@ use Rattle.std.proofs.Common.{◌≡◌, ℕ, zero, suc, ◌+◌, ◌/◌, ◌<�
 use Rattle.std.proofs.lemmas.Bool.{cases_lt, cases_Bool, both_ways, not-true, not_from_false}
 use Rattle.fires.specs.declared.meaning.Reading.{Reading}
 use Rattle.fires.specs.declared.meaning.Reading.TheVariants.{Flux, Missing, Ended}
-use Rattle.check.specs.Check.{passes_at}
-use Rattle.check.proofs.Falling.{carries_kept}
-use Rattle.check.proofs.Search.{greatest_grows}
+use Rattle.member_check.specs.Check.{passes_at}
+use Rattle.member_check.proofs.Falling.{carries_kept}
+use Rattle.member_check.proofs.Search.{greatest_grows}
 use Rattle.rounding.specs.Quotient.{ceil}
 use Rattle.trial.specs.Heating.{heated_by}
 use Rattle.trial.specs.Questions.{fails}

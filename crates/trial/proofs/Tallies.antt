@@ -1,7 +1,7 @@
 -- Tallies, call by call.
 use Rattle.std.proofs.Common.{◌≡◌, ℕ, ◌+◌, ◌<◌, ◌≤◌, min, Bool, true, false, cond, leb, List, [], ◌∷◌, ◌++◌, sym, refl, ap, ◌∙◌, subst, ⊎_elim, arith}
 use Rattle.std.proofs.lemmas.Bool.{cases_lt, cond_both, cond-false, cond-true, le-leb, lt-leb}
-use Rattle.check.proofs.Falling.{passes_unloaded}
+use Rattle.member_check.proofs.Falling.{passes_unloaded}
 use Rattle.trial.specs.Parts.{Parts}
 use Rattle.trial.specs.Course.{end, end_stop, entry}
 use Rattle.trial.specs.Answers.{can_go_back, carried_cold, judged, told}

@@ -1,6 +1,6 @@
 -- What is answered, from the parts, a load, and the temperatures of the steps 0 to n. No sheet is named here.
 use Rattle.std.specs.Prelude.{ℕ, Bool, cond, nat_le}
-use Rattle.check.specs.Check.{critical_of, passes_at}
+use Rattle.member_check.specs.Check.{critical_of, passes_at}
 use Rattle.trial.specs.Parts.{Parts}
 use Rattle.trial.specs.Questions.{temperature_at, hottest, first_failing}
 use Rattle.trial.specs.declared.call.Answer.{Answer}

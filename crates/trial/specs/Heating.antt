@@ -1,7 +1,7 @@
 -- One step of heating (EN 1993-1-2, 4.2.5.1), and what stops it.
 use Rattle.std.specs.Prelude.{ℕ, ◌*◌, ◌/◌, max, Bool, true, false, cond, ℤ, pos, negsuc, ◌+ℤ◌, ◌*ℤ◌, Some, None, Option, nat_le, nat_lt}
 use Rattle.rounding.specs.Quotient.{rounded_up}
-use Rattle.check.specs.declared.input.Figures.{Figures}
+use Rattle.member_check.specs.declared.input.Figures.{Figures}
 use Rattle.fires.specs.declared.meaning.Reading.{Reading}
 use Rattle.fires.specs.declared.meaning.Reading.TheVariants.{Flux, Missing, Ended}
 use Rattle.trial.specs.Parts.{Parts}

@@ -1,6 +1,6 @@
 -- The law over runs: what holds of a sheet after any list of calls, some of them refused.
 use Rattle.std.specs.Prelude.{◌≡◌, ℕ, ◌+◌, ◌*◌, ◌<◌, ◌≤◌, Bool, true, false, List, [], ◌∷◌, ◌++◌, Some, None, Option}
-use Rattle.check.specs.Check.{Critical, NowhereLower}
+use Rattle.member_check.specs.Check.{Critical, NowhereLower}
 use Rattle.trial.specs.Parts.{Parts}
 use Rattle.trial.specs.Questions.{fails}
 use Rattle.trial.specs.Course.{end, end_stop, entry}

@@ -1,7 +1,7 @@
 -- What is asked of steps by their temperatures.
 use Rattle.std.specs.Prelude.{ℕ, zero, suc, max, Bool, cond, not, Some, None, Option, nat_le}
 use Rattle.rounding.specs.Quotient.{ceil}
-use Rattle.check.specs.Check.{passes_at}
+use Rattle.member_check.specs.Check.{passes_at}
 use Rattle.trial.specs.Parts.{Parts}
 
 -- the temperature at a step, if it is one of the steps 0 to n

@@ -2,8 +2,8 @@
 use Rattle.std.specs.Prelude.{◌≡◌, ℕ, ◌≤◌}
 use Rattle.steels.specs.declared.meaning.Steel as steel
 use Rattle.fires.specs.declared.meaning.Fire as fire
-use Rattle.check.specs.Members.{figures_of}
-use Rattle.check.specs.declared.checked.Member.{Member}
+use Rattle.member_check.specs.Members.{figures_of}
+use Rattle.member_check.specs.declared.checked.Member.{Member}
 use Rattle.trial.specs.Parts.{Parts}
 use Rattle.trial.specs.Columns.{steps_of, temperature_of}
 use Rattle.trial.specs.declared.sheet.Sheet.{Sheet}

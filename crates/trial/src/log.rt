@@ -7,8 +7,8 @@ ghost use Rattle.trial.specs.Views.{parts_of, view_of};
 
 use crate::call::{Answer, Call};
 use crate::sheet::Sheet;
-use check::Member;
 use fires::Fire;
+use member_check::Member;
 use steels::Steel;
 
 // A call, and its answer once it is made.

@@ -5,7 +5,7 @@ mod keeping;
 mod questions;
 
 use crate::column::Column;
-use check::Member;
+use member_check::Member;
 
 // A member in a steel and a fire, its load, and the steps that stand.
 #[derive(Drop)]

@@ -3,12 +3,12 @@
 
 ghost use Rattle.std.specs.Prelude.{◌≡◌, ◌*◌, IfOk};
 ghost use Rattle.examples.specs.Worked.{s235};
-ghost use Rattle.check.specs.Check.{critical_of};
-ghost use Rattle.check.specs.Members.{figures_of};
+ghost use Rattle.member_check.specs.Check.{critical_of};
+ghost use Rattle.member_check.specs.Members.{figures_of};
 
 use anyhow::anyhow;
-use check::{Figures, Member, critical_temperature};
 use fires::{Fire, GasCurve, GaugeRecord, Reading, Shaded, Shading};
+use member_check::{Figures, Member, critical_temperature};
 use std::fmt;
 use steels::{Cap, Capped, Carbon, Steel};
 

@@ -1,7 +1,7 @@
 use Rattle.std.proofs.Common.{◌≡◌, List, [], subst}
 use Rattle.std.proofs.lemmas.Result.{IfOk-from_err}
-use Rattle.check.specs.Members.{figures_of}
-use Rattle.check.specs.declared.checked.Member.{Member}
+use Rattle.member_check.specs.Members.{figures_of}
+use Rattle.member_check.specs.declared.checked.Member.{Member}
 use Rattle.fires.specs.Gauge.{bytes_of, gauge_tells}
 use Rattle.fires.specs.contracts.gauge.reading.GaugeRecordFire.TheImpl as gauge
 use Rattle.fires.specs.declared.gauge.GaugeRecord.{GaugeRecord}

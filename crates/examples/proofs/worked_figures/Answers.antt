@@ -2,8 +2,8 @@ use Rattle.std.proofs.Common.{◌≡◌, ℕ, ◌+◌, ◌≤◌, true, false, S
 use Rattle.steels.specs.Carbon.{carbon_factor}
 use Rattle.steels.specs.declared.table.Column.TheVariants.{Stiffness, Strength}
 use Rattle.steels.specs.CarbonRules.{carbon_factor_law}
-use Rattle.check.proofs.Search.{critical_at}
-use Rattle.check.specs.Check.{passes_at}
+use Rattle.member_check.proofs.Search.{critical_at}
+use Rattle.member_check.specs.Check.{passes_at}
 use Rattle.examples.specs.Worked.{critical, s235}
 use Rattle.examples.proofs.worked_figures.Goals as goal
 

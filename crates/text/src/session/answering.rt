@@ -1,6 +1,6 @@
 // Lines answered one by one.
 ghost use Rattle.std.specs.Prelude.{◌≡◌};
-ghost use Rattle.check.specs.Members.{figures_of};
+ghost use Rattle.member_check.specs.Members.{figures_of};
 ghost use Rattle.fires.specs.Gauge.{bytes_of, word_bytes};
 ghost use Rattle.text.specs.Replies.{text_of};
 ghost use Rattle.trial.specs.Views.{Same, new_view};
@@ -14,8 +14,8 @@ use crate::entry::{Entry, read_entry};
 use crate::reply::Reply;
 use crate::session::Session;
 use crate::stage::Stage;
-use check::{Figures, Member};
 use fires::GaugeRecord;
+use member_check::{Figures, Member};
 use steels::Carbon;
 use trial::{Answer, Call, Question, Sheet};
 

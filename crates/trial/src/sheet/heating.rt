@@ -1,7 +1,7 @@
 // A sheet heated step by step.
 ghost use Rattle.std.specs.Prelude.{◌≡◌, ◌*◌, ◌≤◌, pos, ◌+ℤ◌, IfOk};
 ghost use Rattle.std.specs.Result.{result_err};
-ghost use Rattle.check.specs.Members.{figures_of};
+ghost use Rattle.member_check.specs.Members.{figures_of};
 ghost use Rattle.fires.specs.Meaning.{Within};
 ghost use Rattle.trial.specs.Calls.{after_heat, heat_answer, next_capacity, next_end, next_reading, next_stop};
 ghost use Rattle.trial.specs.Course.{stop_code};
@@ -13,8 +13,8 @@ ghost use Rattle.trial.specs.declared.call.Call.TheVariants.{Heat};
 
 use crate::sheet::Sheet;
 use crate::stop::Stop;
-use check::Member;
 use fires::{Fire, Reading};
+use member_check::Member;
 use rounding::rounded_up;
 use steels::Steel;
 

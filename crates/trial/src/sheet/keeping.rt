@@ -11,8 +11,8 @@ ghost use Rattle.trial.specs.declared.call.Call.TheVariants.{Back, Load};
 use crate::column::Column;
 use crate::refusal::Refusal;
 use crate::sheet::Sheet;
-use check::{Member, passes};
 use fires::Fire;
+use member_check::{Member, passes};
 use steels::Steel;
 
 impl<S: Steel, F: Fire> Sheet<S, F> {

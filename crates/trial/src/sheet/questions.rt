@@ -4,8 +4,8 @@ ghost use Rattle.trial.specs.Calls.{critical_in, first_failing_in, hottest_in, t
 ghost use Rattle.trial.specs.Views.{view_of};
 
 use crate::sheet::Sheet;
-use check::critical_temperature;
 use fires::Fire;
+use member_check::critical_temperature;
 use steels::Steel;
 
 impl<S: Steel, F: Fire> Sheet<S, F> {

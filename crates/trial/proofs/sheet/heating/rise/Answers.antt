@@ -2,8 +2,8 @@ use Rattle.std.proofs.Common.{◌≡◌, ℕ, ◌*◌, ◌≤◌, ℤ, pos, ◌*
 use Rattle.std.proofs.lemmas.Nat.{mul-le}
 use Rattle.std.proofs.lemmas.Int.{ints, to_z-of_z}
 use Rattle.rounding.specs.Quotient.{rounded_up}
-use Rattle.check.specs.Members.{figures_of}
-use Rattle.check.specs.declared.checked.Member.{Member}
+use Rattle.member_check.specs.Members.{figures_of}
+use Rattle.member_check.specs.declared.checked.Member.{Member}
 use Rattle.fires.specs.Meaning.{Within}
 use Rattle.fires.specs.FluxProducts.{product_within, widened_fits, widened_product}
 use Rattle.fires.specs.RoundedWithin.{rounded_within}

@@ -1,11 +1,11 @@
 -- Which figures make a member, and what a member's figures are.
 use Rattle.std.specs.Prelude.{◌≡◌, ℕ, ◌≤◌, Bool, true, false, cond, not, ◌&&◌, [], Some, None, Ok, Err, Option, Result, nat_le}
 use Rattle.std.specs.Option.{unwrap_or}
-use Rattle.check.specs.declared.input.Figures.{Figures}
-use Rattle.check.specs.declared.input.Refusal.{Refusal}
-use Rattle.check.specs.declared.input.Refusal.TheVariants.{SectionFactor, Seconds, YieldStrength, ColdStrength}
-use Rattle.check.specs.declared.checked.Member.{Member}
-use Rattle.check.specs.Refusal.{Refused, refused}
+use Rattle.member_check.specs.declared.input.Figures.{Figures}
+use Rattle.member_check.specs.declared.input.Refusal.{Refusal}
+use Rattle.member_check.specs.declared.input.Refusal.TheVariants.{SectionFactor, Seconds, YieldStrength, ColdStrength}
+use Rattle.member_check.specs.declared.checked.Member.{Member}
+use Rattle.member_check.specs.Refusal.{Refused, refused}
 
 -- the figures that a member was made from
 abbrev pub figures_of : Member → Figures

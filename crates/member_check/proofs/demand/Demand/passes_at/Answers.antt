@@ -1,8 +1,8 @@
 use Rattle.std.proofs.Common.{◌∙◌, arith}
-use Rattle.check.specs.Members.{figures_of}
-use Rattle.check.proofs.Falling.{passes_below, passes_unloaded}
-use Rattle.check.proofs.Kept.{reckoned}
-use Rattle.check.proofs.demand.Demand.passes_at.Goals as goal
+use Rattle.member_check.specs.Members.{figures_of}
+use Rattle.member_check.proofs.Falling.{passes_below, passes_unloaded}
+use Rattle.member_check.proofs.Kept.{reckoned}
+use Rattle.member_check.proofs.demand.Demand.passes_at.Goals as goal
 
 pub returns : goal.returns
 returns g c =

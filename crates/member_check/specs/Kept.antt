@@ -1,6 +1,6 @@
 -- What a check keeps of the utilisations, so that all fits 64 bits. The rules themselves are in Check.
 use Rattle.std.specs.Prelude.{ℕ, cond, Some, None, Option, nat_le}
-use Rattle.check.specs.Check.{utilisation}
+use Rattle.member_check.specs.Check.{utilisation}
 
 -- 10,001, above every factor, if the load is above the resistance
 abbrev pub kept : ℕ → ℕ → ℕ

@@ -2,7 +2,7 @@
 use Rattle.std.specs.Prelude.{◌≡◌, ℕ, zero, suc, ◌+◌, ◌-◌, ◌*◌, ◌<◌, ◌≤◌, Bool, true, false, cond, ◌&&◌, Some, None, Option, nat_le}
 use Rattle.rounding.specs.Quotient.{ceil}
 use Rattle.steels.specs.Meaning.{Factor}
-use Rattle.check.specs.declared.input.Figures.{Figures}
+use Rattle.member_check.specs.declared.input.Figures.{Figures}
 
 -- a load over a resistance in ten-thousandths, rounded up
 abbrev pub utilisation : ℕ → ℕ → ℕ

@@ -2,9 +2,9 @@
 use Rattle.std.proofs.Common.{◌≡◌, ℕ, zero, suc, ◌+◌, ◌-◌, ◌/◌, ◌<◌, ◌≤◌, Bool, true, false, cond, refl, ◌∙◌, ⊎_elim, le_trans, le_refl, arith, lit<, lit≤}
 use Rattle.std.proofs.lemmas.Bool.{false≢true, cases_Bool, cases_lt, cond-true, cond-false, cond_both, both_ways}
 use Rattle.steels.specs.Meaning.{Factor}
-use Rattle.check.specs.declared.input.Figures.{Figures}
-use Rattle.check.specs.Check.{greatest, Last, Critical, critical_of, passes_at, NoLower}
-use Rattle.check.proofs.Falling.{passes_below, carries_kept}
+use Rattle.member_check.specs.declared.input.Figures.{Figures}
+use Rattle.member_check.specs.Check.{greatest, Last, Critical, critical_of, passes_at, NoLower}
+use Rattle.member_check.proofs.Falling.{passes_below, carries_kept}
 
 -- a test that never passes again once it has failed
 abbrev pub Fades : (ℕ → Bool) → Type 0

@@ -2,8 +2,8 @@
 ghost use Rattle.std.specs.Prelude.{◌≡◌, ◌≤◌};
 ghost use Rattle.std.specs.Option.{option_map};
 ghost use Rattle.std.specs.Result.{result_err};
-ghost use Rattle.check.specs.Refusal.{refused};
-ghost use Rattle.check.specs.Members.{Judged, figures_of, in_range, member_fault};
+ghost use Rattle.member_check.specs.Refusal.{refused};
+ghost use Rattle.member_check.specs.Members.{Judged, figures_of, in_range, member_fault};
 
 use crate::checked::Member;
 use crate::input::{Figures, Refusal};

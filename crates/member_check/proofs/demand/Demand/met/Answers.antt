@@ -1,7 +1,7 @@
 use Rattle.std.proofs.Common.{◌*◌, ◌≤◌, mul-le-mul, arith}
-use Rattle.check.specs.Members.{figures_of}
-use Rattle.check.proofs.Kept.{imperfection_most, kept_most, kept_buckling_most}
-use Rattle.check.proofs.demand.Demand.met.Goals as goal
+use Rattle.member_check.specs.Members.{figures_of}
+use Rattle.member_check.proofs.Kept.{imperfection_most, kept_most, kept_buckling_most}
+use Rattle.member_check.proofs.demand.Demand.met.Goals as goal
 
 -- the products fit whatever the first two rules say
 asked : (c : goal.Then-enough) → c.args.self.now.imperfection * c.args.self.now.strength * c.args.self.now.buckling ≤ 5001000050

@@ -3,9 +3,9 @@ use Rattle.std.proofs.Common.{◌≡◌, ℕ, ◌+◌, ◌-◌, ◌*◌, ◌<◌
 use native.Mathlib.Nat.{div-zero}
 use Rattle.std.proofs.lemmas.Nat.{div_below, le-div}
 use Rattle.std.proofs.lemmas.Bool.{and_left, and_right, cases_lt, cond-true, cond-false, cond_both, leb-true, le-leb, lt-leb}
-use Rattle.check.specs.declared.input.Figures.{Figures}
-use Rattle.check.specs.Check.{utilisation, buckling_use, imperfection_of, rules, carries}
-use Rattle.check.specs.Kept.{kept, kept_buckling}
+use Rattle.member_check.specs.declared.input.Figures.{Figures}
+use Rattle.member_check.specs.Check.{utilisation, buckling_use, imperfection_of, rules, carries}
+use Rattle.member_check.specs.Kept.{kept, kept_buckling}
 
 -- two utilisations that no factor tells apart
 abbrev Alike : ℕ → ℕ → Type 0

@@ -1,9 +1,9 @@
 use Rattle.std.proofs.Common.{◌≡◌, ℕ, Bool, sym, arith}
-use Rattle.check.specs.declared.checked.Member.{Member}
-use Rattle.check.specs.Check.{passes_at}
-use Rattle.check.specs.Members.{figures_of}
-use Rattle.check.proofs.Search.{critical_parts, lowered, narrowed, no_lower, passes_fades, raised}
-use Rattle.check.proofs.standing.critical_temperature.Goals as goal
+use Rattle.member_check.specs.declared.checked.Member.{Member}
+use Rattle.member_check.specs.Check.{passes_at}
+use Rattle.member_check.specs.Members.{figures_of}
+use Rattle.member_check.proofs.Search.{critical_parts, lowered, narrowed, no_lower, passes_fades, raised}
+use Rattle.member_check.proofs.standing.critical_temperature.Goals as goal
 
 answered : (b : Bool) (y z : ℕ → ℕ) (m n : Member) (load load' d : ℕ) → b ≡ passes_at (figures_of m) y z load d → m ≡ n → load ≡ load' → passes_at (figures_of n) y z load' d ≡ b
 answered b y z m n load load' d e same_member same_Load = cc

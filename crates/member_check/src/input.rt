@@ -1,6 +1,6 @@
 // The figures of a member as they are given, and the causes for which they are refused.
 ghost use Rattle.std.specs.Prelude.{◌≡◌};
-ghost use Rattle.check.specs.Refusal.{refused};
+ghost use Rattle.member_check.specs.Refusal.{refused};
 
 // A section factor per metre, the seconds of a step, a yield strength in MPa, a cold strength and, if the member can buckle, its ideal buckling load.
 #[derive(Clone, Copy)]

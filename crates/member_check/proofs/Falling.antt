@@ -4,8 +4,8 @@ use native.Mathlib.Nat.{div-zero, div-eq_of_lt}
 use Rattle.std.proofs.lemmas.Nat.{le-div}
 use Rattle.std.proofs.lemmas.Bool.{and_parts, and_from, leb-true, le-leb}
 use Rattle.rounding.specs.Quotient.{ceil}
-use Rattle.check.specs.declared.input.Figures.{Figures}
-use Rattle.check.specs.Check.{utilisation, buckling_use, imperfection_of, rules, carries, PassesBelow, PassesUnloaded}
+use Rattle.member_check.specs.declared.input.Figures.{Figures}
+use Rattle.member_check.specs.Check.{utilisation, buckling_use, imperfection_of, rules, carries, PassesBelow, PassesUnloaded}
 
 grown : (n u k : ℕ) → (n + u + k) * (u * u) ≤ (n + u) * ((u + k) * (u + k))
 grown n u k = omega arith

@@ -1,9 +1,9 @@
 // A member under a load: what the load asks of a steel's factors, reckoned once and then held against any degree.
 ghost use Rattle.std.specs.Prelude.{◌≡◌, ◌≤◌};
 ghost use Rattle.rounding.specs.Quotient.{ceil};
-ghost use Rattle.check.specs.Members.{figures_of};
-ghost use Rattle.check.specs.Check.{PassesBelow, PassesUnloaded, imperfection_of, passes_at, rules};
-ghost use Rattle.check.specs.Kept.{kept, kept_buckling};
+ghost use Rattle.member_check.specs.Members.{figures_of};
+ghost use Rattle.member_check.specs.Check.{PassesBelow, PassesUnloaded, imperfection_of, passes_at, rules};
+ghost use Rattle.member_check.specs.Kept.{kept, kept_buckling};
 
 use crate::checked::Member;
 use rounding::rounded_up;

@@ -1,5 +1,5 @@
 use Rattle.std.proofs.Common.{rules}
-use Rattle.check.proofs.demand.factors_at.Goals as goal
+use Rattle.member_check.proofs.demand.factors_at.Goals as goal
 
 pub invariant_of-result : goal.invariant_of-result
 invariant_of-result g c =

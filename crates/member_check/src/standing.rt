@@ -1,7 +1,7 @@
 // Whether a member stands at a degree, for any steel, and the degree up to which it does.
 ghost use Rattle.std.specs.Prelude.{◌≡◌};
-ghost use Rattle.check.specs.Members.{figures_of};
-ghost use Rattle.check.specs.Check.{Critical, NoLower, PassesBelow, PassesUnloaded, critical_of, passes_at};
+ghost use Rattle.member_check.specs.Members.{figures_of};
+ghost use Rattle.member_check.specs.Check.{Critical, NoLower, PassesBelow, PassesUnloaded, critical_of, passes_at};
 
 use crate::checked::Member;
 use crate::demand::Demand;
