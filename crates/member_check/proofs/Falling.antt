@@ -1,5 +1,5 @@
 -- Higher factors and a smaller load never make a member fail: the three rules, squared and without roots, are monotone.
-use Rattle.std.proofs.Common.{◌≡◌, ℕ, ◌+◌, ◌-◌, ◌*◌, ◌/◌, ◌<◌, ◌≤◌, true, not, leb, Some, None, Option, refl, ◌∙◌, ⊎_elim, le_trans, mul-le-mul_right, eq-zero-or-pos, mul-le-mul, mul-pos, div-mul-le_self, le_of_mul-le-mul_right, arith}
+use Rattle.std.proofs.Common.{◌≡◌, ℕ, ◌+◌, ◌-◌, ◌*◌, ◌<◌, ◌≤◌, true, leb, Some, None, Option, refl, ◌∙◌, ⊎_elim, le_trans, mul-le-mul_right, eq-zero-or-pos, mul-le-mul, mul-pos, div-mul-le_self, le_of_mul-le-mul_right, arith}
 use native.Mathlib.Nat.{div-zero, div-eq_of_lt}
 use Rattle.std.proofs.lemmas.Nat.{le-div}
 use Rattle.std.proofs.lemmas.Bool.{and_parts, and_from, leb-true, le-leb}

@@ -1,13 +1,12 @@
 -- Weighted means, and the broken line through the rows of a table.
-use Rattle.std.specs.Prelude.{◌≡◌, ℕ, zero, suc, ◌+◌, ◌-◌, ◌*◌, ◌/◌, ◌^◌, ◌<◌, ◌≤◌, Bool, true, false, cond, List, [], ◌∷◌, ◌++◌, map, length, take, drop, nat_lt, slice_index_or, refl}
-use Rattle.std.proofs.Common.{sym, ap, ◌∙◌, subst, ⊎_elim, mul-le-mul_right, mul-le-mul_left, arith}
+use Rattle.std.specs.Prelude.{◌≡◌, ℕ, ◌+◌, ◌-◌, ◌*◌, ◌/◌, ◌^◌, ◌<◌, ◌≤◌, cond, List, [], ◌∷◌, map, length, take, drop, nat_lt, slice_index_or, refl}
+use Rattle.std.proofs.Common.{sym, ap, ◌∙◌, mul-le-mul_right, arith}
 use Rattle.std.proofs.lemmas.List.{at_drop_more, take_rest}
 use Rattle.std.proofs.lemmas.Bool.{cond-false, cond-true, le-ltb, lt-ltb}
-use Rattle.std.proofs.lemmas.Nat.{div_below, le-div}
+use Rattle.std.proofs.lemmas.Nat.{div_below}
 use Rattle.steels.specs.declared.table.Column.{Column}
-use Rattle.steels.specs.declared.table.Column.TheVariants.{Strength, Stiffness}
 use Rattle.steels.specs.declared.table.Row.{Row}
-use Rattle.steels.specs.Table.{Behind, Linear, Sound, between, cell, clamped, line, tabled}
+use Rattle.steels.specs.Table.{between, clamped, line, tabled}
 
 -- a sum of two values with weights a and b lies between the weighted bounds
 pub mean_most : (u v a b most : ℕ) → u ≤ most → v ≤ most → u * a + v * b ≤ most * (a + b)

@@ -6,7 +6,7 @@ use Rattle.std.proofs.lemmas.Bool.{cond_both, cond-false, cond-true, le-ltb, lt-
 use Rattle.steels.specs.declared.table.Column.{Column}
 use Rattle.steels.specs.declared.table.Column.TheVariants.{Strength, Stiffness}
 use Rattle.steels.specs.declared.table.Row.{Row}
-use Rattle.steels.specs.Meaning.{Clamped, Factor}
+use Rattle.steels.specs.Meaning.{Factor}
 use Rattle.steels.specs.Table.{Behind, Linear, Sound, between, cell, clamped, line, tabled}
 use Rattle.steels.specs.Lines.{mean_least, mean_most}
 

@@ -5,4 +5,4 @@ pub invariant_of-result : goal.invariant_of-result
 invariant_of-result g c =
     let y = (g.met.S.Steel.strength_law c.args.steel.now).most in
     let z = (g.met.S.Steel.stiffness_law c.args.steel.now).most in
-    (search (rules, y), (search (rules, z), tt))
+    record { strength_most = search (rules, y); stiffness_most = search (rules, z) }

@@ -1,4 +1,4 @@
-use Rattle.std.proofs.Common.{◌≡◌, sym, ◌∙◌, arith}
+use Rattle.std.proofs.Common.{sym, ◌∙◌, arith}
 use Rattle.std.proofs.lemmas.List.{at_drop_all}
 use Rattle.steels.specs.Mill.{point_fault}
 use Rattle.steels.specs.Points.{goes_on, stops_at_degree, stops_at_figure}

@@ -15,7 +15,7 @@ overflow_mul-flux g c =
     let told = flux_told _ _ answers c.args.step c.args.temperature _ c.in-Flux.ensures in
     widened_fits _ _ told (omega (arith, c.args.self.now.shading.most))
 
-module _ (g : Over) (c : goal.After-rounded-up g) where
+module _ (g : Over) (c : goal.After-rounded_up g) where
   told : Within 400000 c.in-Flux.flux
   told =
       let answers = g.met.F.Fire.answers c.args.self.now.below in
