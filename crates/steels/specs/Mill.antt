@@ -1,6 +1,6 @@
 -- A mill sheet: points of degree, factors and heat capacity, and what is wrong with a list of them.
 use Rattle.std.specs.Prelude.{◌≡◌, ℕ, suc, ◌<◌, ◌≤◌, Bool, true, false, cond, not, ◌&&◌, ◌||◌, List, [], ◌∷◌, ◌++◌, map, length, Some, None, Option, ◌==◌, nat_le, nat_lt}
-use Rattle.std.specs.List.{AllByRecursion as All}
+use Rattle.std.specs.List.{AllByRecursion}
 use Rattle.steels.specs.declared.point.Point.{Point}
 use Rattle.steels.specs.declared.table.Column.{Column}
 use Rattle.steels.specs.declared.table.Row.{Row}
@@ -59,7 +59,7 @@ sheet_capacity (p ∷ points) d = capacity_from p.capacity points (clamped d)
 -- f is at each degree the heat capacity of the last point that is not above it
 abbrev pub LastNotAbove : List Point → (ℕ → ℕ) → Type 0
 LastNotAbove points f =
-    (before after : List Point) (p : Point) (d : ℕ) → points ≡ before ++ (p ∷ after) → p.degree ≤ d → d ≤ 1200 → All (λ q. d < q.degree) after → f d ≡ p.capacity
+    (before after : List Point) (p : Point) (d : ℕ) → points ≡ before ++ (p ∷ after) → p.degree ≤ d → d ≤ 1200 → AllByRecursion (λ q. d < q.degree) after → f d ≡ p.capacity
 
 -- a point of full factors and 600 J/(kg K)
 abbrev pub full_point : ℕ → Point

@@ -3,7 +3,7 @@ use Rattle.std.specs.Prelude.{◌≡◌, ℕ, suc, ◌+◌, ◌-◌, ◌<◌, �
 use Rattle.std.proofs.Common.{sym, ap, subst, ◌∙◌, le_refl, add-one, arith, length-drop}
 use Rattle.std.proofs.lemmas.List.{at_drop_more, take_rest, map-append}
 use Rattle.std.proofs.lemmas.Bool.{and_parts, cond_both, cond-false, cond-true, eq-eqb, eqb-true, false≢true, le-ltb, leb-true, lt-ltb, ltb-true, ne_eqb, true≢false}
-use Rattle.std.specs.List.{AllByRecursion as All}
+use Rattle.std.specs.List.{AllByRecursion}
 use Rattle.steels.specs.declared.point.Point.{Point}
 use Rattle.steels.specs.declared.table.Column.{Column}
 use Rattle.steels.specs.Meaning.{Capacity, Factor}
@@ -84,7 +84,7 @@ module _ (i : ℕ) (before : Option Point) (p : Point) (points : List Point) (cl
   the_rest : is_some (point_fault (suc i) (Some p) points) ≡ false
   the_rest = inner.1
 
-behind : (i : ℕ) (b : Point) (points : List Point) → is_some (point_fault i (Some b) points) ≡ false → (is_last points ≡ true → b.degree ≡ 1200) → Behind (row_of b) (map row_of points) × All (λ p. Warm p.capacity) points
+behind : (i : ℕ) (b : Point) (points : List Point) → is_some (point_fault i (Some b) points) ≡ false → (is_last points ≡ true → b.degree ≡ 1200) → Behind (row_of b) (map row_of points) × AllByRecursion (λ p. Warm p.capacity) points
 behind i b [] clean last = (last refl, tt)
 behind i b (p ∷ points) clean last =
     let tail = behind (suc i) p points (the_rest i (Some b) p points clean) (ends_right i (Some b) p points clean) in
@@ -93,7 +93,7 @@ behind i b (p ∷ points) clean last =
       ((ranges i (Some b) p points clean).1, tail.1),
     )
 
-pub sheet_sound : (points : List Point) → is_some (sheet_fault points) ≡ false → Sound (map row_of points) × All (λ p. Warm p.capacity) points
+pub sheet_sound : (points : List Point) → is_some (sheet_fault points) ≡ false → Sound (map row_of points) × AllByRecursion (λ p. Warm p.capacity) points
 sheet_sound [] clean = absurd (true≢false clean)
 sheet_sound (p ∷ points) clean =
     let inside = (no_fault (nat_le 2 (length (p ∷ points)) && nat_le (length (p ∷ points)) 64) (point_fault 0 None (p ∷ points)) (5, []) clean).1 in
@@ -106,7 +106,7 @@ few_points points clean = leb-true _ _ (and_parts (nat_le 2 (length points)) _ (
 
 -- ---- the heat capacity of a sheet
 
-warm_from : (c : ℕ) (points : List Point) (d : ℕ) → Warm c → All (λ p. Warm p.capacity) points → Warm (capacity_from c points d)
+warm_from : (c : ℕ) (points : List Point) (d : ℕ) → Warm c → AllByRecursion (λ p. Warm p.capacity) points → Warm (capacity_from c points d)
 warm_from c [] d h all = h
 warm_from c (p ∷ points) d h all =
     cond_both (nat_lt d p.degree) c (capacity_from p.capacity points d) Warm (λ _. h) (λ _. warm_from p.capacity points d all.0 all.1)
@@ -128,8 +128,8 @@ pub sheet_factor_law : (c : Column) (points : List Point) → is_some (sheet_fau
 sheet_factor_law c points clean = factor_law c (map row_of points) (sheet_sound points clean).0
 
 -- p is the last point that is not above d
-module _ (p : Point) (after : List Point) (d : ℕ) (low : p.degree ≤ d) (later : All (λ q. d < q.degree) after) where
-  stays : (c : ℕ) (points : List Point) → All (λ q. d < q.degree) points → capacity_from c points d ≡ c
+module _ (p : Point) (after : List Point) (d : ℕ) (low : p.degree ≤ d) (later : AllByRecursion (λ q. d < q.degree) after) where
+  stays : (c : ℕ) (points : List Point) → AllByRecursion (λ q. d < q.degree) points → capacity_from c points d ≡ c
   stays c [] above = refl
   stays c (q ∷ points) above = cond-true _ c _ (lt-ltb d q.degree above.0)
 

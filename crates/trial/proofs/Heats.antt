@@ -1,11 +1,10 @@
 -- A heat on its way, and what it comes to.
-use Rattle.std.proofs.Common.{◌≡◌, ℕ, zero, suc, ◌+◌, ◌-◌, ◌<◌, ◌≤◌, min, true, false, cond, leb, is_some, Some, None, Option, sym, refl, ap, ◌∙◌, ⊎_elim, arith}
+use Rattle.std.proofs.Common.{◌≡◌, ℕ, suc, ◌+◌, ◌-◌, ◌<◌, ◌≤◌, false, leb, is_some, Some, None, Option, sym, refl, ap, ◌∙◌, ⊎_elim, arith}
 use Rattle.std.proofs.lemmas.Bool.{both_ways, cases_lt, cond-false, cond-true, le-leb, lt-leb}
 use Rattle.trial.specs.Parts.{Parts}
 use Rattle.trial.specs.Course.{ahead, reach, stop_ahead, stop_code}
 use Rattle.trial.specs.Calls.{after_heat, heat_answer, next_end, next_stop}
 use Rattle.trial.specs.Heating.{stepped, stop_of}
-use Rattle.trial.specs.Refusal.{stop_number}
 use Rattle.trial.specs.Views.{Same, View, last_of}
 use Rattle.trial.specs.declared.stop.Stop.{Stop}
 use Rattle.trial.proofs.Courses.{full, reach_at, reach_least}

@@ -7,7 +7,6 @@ use Rattle.trial.specs.Law.{Law, Lawful}
 use Rattle.trial.specs.Logs.{answers_of, calls_of}
 use Rattle.trial.specs.Tally.{answered, answers_to, start}
 use Rattle.trial.specs.declared.call.Answer.{Answer}
-use Rattle.trial.specs.declared.call.Call.{Call}
 use Rattle.trial.specs.declared.log.Logged.{Logged}
 use Rattle.trial.proofs.Tallies.{answered_more}
 

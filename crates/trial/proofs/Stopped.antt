@@ -1,9 +1,9 @@
 -- The course ends where the first step is stopped, by the smallest cause that holds.
-use Rattle.std.proofs.Common.{◌≡◌, ℕ, suc, ◌+◌, ◌<◌, ◌≤◌, Bool, true, false, cond, ◌⊎◌, is_some, Some, None, Option, sym, refl, ap, ◌∙◌, subst, inl, inr, ⊎_elim, zero-add, add-one, arith, lit≤}
+use Rattle.std.proofs.Common.{◌≡◌, ℕ, ◌+◌, ◌≤◌, Bool, true, false, cond, ◌⊎◌, is_some, Some, None, Option, refl, ap, subst, inl, inr, ⊎_elim, zero-add, add-one, lit≤}
 use Rattle.std.proofs.lemmas.Bool.{both_ways}
 use Rattle.trial.specs.Parts.{Parts}
 use Rattle.trial.specs.Heating.{cause, smallest_of, stepped, stop_of}
-use Rattle.trial.specs.Course.{ahead, end, end_stop, entry, stop_code}
+use Rattle.trial.specs.Course.{ahead, end, entry, stop_code}
 use Rattle.trial.specs.Law.{Course, StoppedBy}
 use Rattle.trial.specs.Refusal.{stop_number}
 use Rattle.trial.specs.declared.stop.Stop.{Stop}

@@ -13,10 +13,9 @@ pub invariant_of-self : goal.invariant_of-self
 invariant_of-self c =
     let column = c.args.self.now in
     let n = column.standing in
-    let room : n + 1 < length column.temperatures = search rules in (
-      omega (arith, c.requires.0),
-      (
-        each_more (λ t. 20000 ≤ t) column.temperatures n c.args.temperature room c.requires.1.0 column.least,
-        (each_more (λ t. t ≤ 1200000) column.temperatures n c.args.temperature room c.requires.1.1 column.most, tt),
-      ),
-    )
+    let room : n + 1 < length column.temperatures = search rules in
+    record {
+      few = omega (arith, c.requires.0);
+      least = each_more (λ t. 20000 ≤ t) column.temperatures n c.args.temperature room c.requires.1.0 column.least;
+      most = each_more (λ t. t ≤ 1200000) column.temperatures n c.args.temperature room c.requires.1.1 column.most;
+    }

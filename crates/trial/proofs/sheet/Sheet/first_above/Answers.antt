@@ -1,4 +1,4 @@
-use Rattle.std.proofs.Common.{◌≡◌, ◌+◌, ltb, sym, ap, ◌∙◌, arith}
+use Rattle.std.proofs.Common.{◌+◌, ltb, sym, ap, ◌∙◌, arith}
 use Rattle.trial.specs.Questions.{fails, first}
 use Rattle.trial.specs.Views.{view_of}
 use Rattle.trial.proofs.First.{first_same}

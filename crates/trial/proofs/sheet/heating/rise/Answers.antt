@@ -1,4 +1,4 @@
-use Rattle.std.proofs.Common.{◌≡◌, ℕ, ◌*◌, ◌≤◌, ℤ, pos, ◌*ℤ◌, sym, ◌∙◌, subst, arith, w64, to_z, of_z}
+use Rattle.std.proofs.Common.{◌≡◌, ℕ, ◌*◌, ◌≤◌, pos, ◌*ℤ◌, sym, ◌∙◌, subst, arith, w64}
 use Rattle.std.proofs.lemmas.Nat.{mul-le}
 use Rattle.std.proofs.lemmas.Int.{ints, to_z-of_z}
 use Rattle.rounding.specs.Quotient.{rounded_up}
@@ -15,7 +15,7 @@ few m x e = omega (arith, mul-le _ _ 500 5 m.section_most m.seconds_most)
 pub overflow_mul-flux : goal.overflow_mul-flux
 overflow_mul-flux c = widened_fits _ _ c.requires.1.1 (omega (arith, few c.args.member.now _ c.exposure.ensures))
 
-module _ (c : goal.After-rounded-up) where
+module _ (c : goal.After-rounded_up) where
   rounded : c.rounded_up.result ≡ rounded_up (c.args.flux *ℤ pos c.exposure.result) (c.args.capacity * 7850)
   rounded =
       let product = widened_product c.args.flux c.exposure.result c.requires.1.1 (omega (arith, few c.args.member.now _ c.exposure.ensures)) in
