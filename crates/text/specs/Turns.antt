@@ -1,19 +1,16 @@
 -- What a line is answered and what it changes. A sheet is known here only by what it says: so the same definitions serve for the sheet of a
 -- session, and for a list of calls that no sheet has made.
-use Rattle.std.specs.Prelude.{ℕ, ◌+◌, ◌-◌, ◌^◌, min, Bool, true, false, cond, List, [], ◌∷◌, ◌++◌, is_some, Some, None, Option}
+use Rattle.std.specs.Prelude.{ℕ, Bool, true, false, cond, List, [], ◌∷◌, ◌++◌, is_some, Some, None, Option}
 use Rattle.std.specs.List.{flat_map}
 use Rattle.member_check.specs.Members.{member_fault}
 use Rattle.member_check.specs.declared.input.Figures.{Figures}
 use Rattle.fires.specs.Gauge.{record_fault, word_bytes}
-use Rattle.fires.specs.Refusal as fires
-use Rattle.member_check.specs.Refusal as check
 use Rattle.trial.specs.Parts.{Parts}
 use Rattle.trial.specs.declared.call.Answer.{Answer}
 use Rattle.trial.specs.declared.call.Answer.TheVariants.{Heated, Accepted, Refused, Standing, Temperature, Hottest, CriticalTemperature, FirstFailing}
 use Rattle.trial.specs.declared.call.Call.{Call}
 use Rattle.trial.specs.declared.call.Call.TheVariants.{Ask}
 use Rattle.trial.specs.declared.call.Question.TheVariants.{Standing as HowMany, TemperatureAt, CriticalTemperature as Limit, FirstFailing as First}
-use Rattle.text.specs.Entries.{entry_of}
 use Rattle.text.specs.Spoken.{fields_of, letter_of, spoken, told}
 use Rattle.text.specs.Trials.{parts_in}
 use Rattle.text.specs.declared.entry.Entry.{Entry}

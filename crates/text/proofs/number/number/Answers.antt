@@ -10,6 +10,6 @@ split_at-requires c = omega (arith, c.digit_count-count.ensures, prefix_len-le-l
 
 pub digits_value-requires : goal.digits_value-requires
 digits_value-requires c = (
-  omega (arith, c.split_at.ensures.front-len),
+  omega (arith, c.split_at.ensures.front_len),
   subst (AllDigits 10) (ap (λ n. take n c.args.text.now) (sym c.digit_count-count.ensures) ∙ sym c.split_at.ensures.front) (front_digits c.args.text.now),
 )

@@ -1,4 +1,4 @@
-use Rattle.std.proofs.Common.{ℕ, List, [], ◌∷◌, arith, rules}
+use Rattle.std.proofs.Common.{[], ◌∷◌, rules}
 use Rattle.text.specs.Replies.{text_of}
 use Rattle.text.proofs.Spelling.{both}
 use Rattle.text.proofs.reply.Reply.push_none.Goals as goal
