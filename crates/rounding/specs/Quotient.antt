@@ -6,7 +6,7 @@ pub record RoundedUp (n : ℤ) (d : ℕ) (q : ℤ) : Type 0 where
   pub not_below : n ≤ℤ (q *ℤ pos d)
   pub least : (p : ℤ) → n ≤ℤ (p *ℤ pos d) → q ≤ℤ p
 
--- that number, of a natural n: `rounded_up` ensures that it is the least one
+-- that number, of a natural n: the function `rounded_up` ensures that it is the least one
 abbrev pub ceil : ℕ → ℕ → ℕ
 ceil n d = (n + (d - 1)) / d
 
