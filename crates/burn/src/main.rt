@@ -22,7 +22,7 @@ use record::{Phase, record_bytes};
 use std::alloc::Global;
 use steels::{Carbon, Steel};
 use trial::{Answer, Call, Question, Sheet};
-use words::{Answered, Called};
+use words::{Answered, Called, Degrees};
 
 // The fire grows, burns, sinks and leaves the steel to cool; one reading is missing, and some follow it.
 const PHASES: [Phase; 6] = [
@@ -180,9 +180,8 @@ fn print_course<S: Steel, F: Fire>(rt: &impl Print, sheet: &mut Sheet<S, F>) -> 
         let Some(temperature) = temperature_at(sheet, step) else {
             break;
         };
-        let degrees = temperature / 1000;
-        let rest = temperature % 1000;
-        println!(rt; "{step:4}  {degrees:4}.{rest:03}")?;
+        let degrees = Degrees(temperature);
+        println!(rt; "{step:4}  {degrees:4}")?;
     }
     Ok(())
 }

@@ -21,6 +21,19 @@ impl fmt::Display for Called {
     }
 }
 
+// A temperature in millidegrees, printed in degrees with three decimals. A width is that of the whole degrees.
+#[derive(Drop)]
+pub struct Degrees(pub u32);
+
+impl fmt::Display for Degrees {
+    fn fmt<W: fmt::Write>(&self, f: &mut fmt::Formatter<W>) -> fmt::Result {
+        let whole = self.0 / 1000;
+        let rest = self.0 % 1000;
+        whole.fmt(f)?;
+        write!(f, ".{rest:03}")
+    }
+}
+
 // The number of a refusal or a stop, with its cause.
 #[derive(Drop)]
 struct Cause(u32);
@@ -51,9 +64,7 @@ impl fmt::Display for Answered {
             Answer::Accepted => f.write_str("accepted"),
             Answer::Refused(refusal) => write!(f, "refused, {}", Cause(refusal.number())),
             Answer::Temperature(Some(temperature)) | Answer::Hottest(temperature) => {
-                let degrees = temperature / 1000;
-                let rest = temperature % 1000;
-                write!(f, "{degrees}.{rest:03} degrees")
+                write!(f, "{} degrees", Degrees(temperature))
             }
             Answer::Temperature(None) => f.write_str("it does not stand"),
             Answer::CriticalTemperature(degree) => write!(f, "{degree} degrees"),

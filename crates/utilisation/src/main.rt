@@ -66,8 +66,7 @@ fn print_utilisations(rt: &impl Print) -> anyhow::Result<()> {
     let class_4 = Capped::over(Carbon::new(), cap);
     let mut below = 0;
     let mut above = 0;
-    let mut hundredths = 22;
-    for tabled in TABLE_4_1 {
+    for (hundredths, tabled) in (22..=80).step_by(2).zip(TABLE_4_1) {
         let here = critical(&tie, &Carbon::new(), hundredths);
         let difference = i64::from(here.0) - i64::from(tabled);
         below = below.min(difference);
@@ -77,7 +76,6 @@ fn print_utilisations(rt: &impl Print) -> anyhow::Result<()> {
         println!(rt;
             "       0.{hundredths}  {tabled:9}  {here:>4}  {difference:+10}  {buckling:>5}  {capped:>7}"
         )?;
-        hundredths = hundredths.saturating_add(2);
     }
     let lowest = below.unsigned_abs();
     println!(rt; "\nThe tie lies from {lowest} below to {above} above the table.\n")?;
@@ -151,7 +149,7 @@ fn print_record(rt: &impl Print) -> anyhow::Result<()> {
     if record.read(&WORDS).is_err() {
         return Err(anyhow!("the gauge record is refused"));
     }
-    for step in 0..6 {
+    for step in 0..=record.step_count() {
         let flux = Flux(record.reading_at(step, 20_000));
         println!(rt; "{step:4}  {flux:>7}")?;
     }
