@@ -2,8 +2,8 @@
 use Rattle.std.proofs.Common.{◌≡◌, ℕ, suc, ◌+◌, ◌-◌, ◌<◌, ◌≤◌, false, leb, is_some, Some, None, Option, sym, refl, ap, ◌∙◌, ⊎_elim, arith}
 use Rattle.std.proofs.lemmas.Bool.{both_ways, cases_lt, cond-false, cond-true, le-leb, lt-leb}
 use Rattle.trial.specs.Parts.{Parts}
-use Rattle.trial.specs.Course.{ahead, reach, stop_ahead, stop_code}
-use Rattle.trial.specs.Calls.{after_heat, heat_answer, next_end, next_stop}
+use Rattle.trial.specs.Course.{ahead, reach, stop_ahead}
+use Rattle.trial.specs.Calls.{after_heat, heat_made, heat_stop, next_end, next_stop}
 use Rattle.trial.specs.Heating.{stepped, stop_of}
 use Rattle.trial.specs.Views.{Same, View, last_of}
 use Rattle.trial.specs.declared.stop.Stop.{Stop}
@@ -29,7 +29,7 @@ pub record Added (v : View) (t : ℕ) (w : View) : Type 0 where
 
 -- what a heat owes when it returns
 abbrev pub Heats : View → ℕ → ℕ → Option Stop → View → Type 0
-Heats v asked made stop w = record { made : made ≡ (heat_answer v asked).0; stop : stop_code stop ≡ (heat_answer v asked).1; after : Same (after_heat v asked) w }
+Heats v asked made stop w = record { made : made ≡ heat_made v asked; stop : stop ≡ heat_stop v asked; after : Same (after_heat v asked) w }
 
 pub heating_starts : (v : View) → v.standing ≤ 4096 → Heating v 0 v
 unfolding ahead
@@ -74,7 +74,7 @@ module _ (v w : View) (made : ℕ) (h : Heating v made w) where
         (cases_lt j made);
   }
 
-  same_as_after : (asked : ℕ) → made ≡ (heat_answer v asked).0 → Same (after_heat v asked) w
+  same_as_after : (asked : ℕ) → made ≡ heat_made v asked → Same (after_heat v asked) w
   same_as_after asked e = record {
     parts = h.parts;
     load = h.load;
@@ -103,9 +103,9 @@ module _ (v w : View) (made : ℕ) (h : Heating v made w) where
   heating_stopped asked stop short stops =
       let here = sym (at_last (Option Stop) stop_of) ∙ sym stops in
       let ends = reach_at v.parts v.standing (last_of v) made (omega (arith, h.few, h.standing)) h.goes (ap is_some here) in
-      let some : made ≡ (heat_answer v asked).0 = omega (arith, ends) in
+      let some : made ≡ heat_made v asked = omega (arith, ends) in
       record {
         made = some;
-        stop = sym (cond-false (leb asked (reach v.parts v.standing (last_of v))) _ _ (lt-leb _ _ (omega (arith, ends))) ∙ (ap (λ r. stop_code (stop_ahead v.parts v.standing (last_of v) r)) ends ∙ ap stop_code here));
+        stop = sym (cond-false (leb asked (reach v.parts v.standing (last_of v))) _ _ (lt-leb _ _ (omega (arith, ends))) ∙ (ap (stop_ahead v.parts v.standing (last_of v)) ends ∙ here));
         after = same_as_after asked some;
       }

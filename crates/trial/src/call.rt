@@ -1,5 +1,6 @@
 // Calls of a sheet and their answers, as values.
 use crate::refusal::Refusal;
+use crate::stop::Stop;
 
 // Questions change nothing. A step is asked for by its number.
 #[derive(Clone, Copy)]
@@ -22,8 +23,8 @@ pub enum Call {
 // Temperatures of steps are in millidegrees, the critical one in degrees.
 #[derive(Clone, Copy)]
 pub enum Answer {
-    // how many steps were made, and the number of what stopped the next, 0 if all were made
-    Heated(usize, u32),
+    // how many steps were made, and what stopped the next, if anything
+    Heated { made: usize, stop: Option<Stop> },
     Accepted,
     Refused(Refusal),
     Standing(usize),

@@ -3,7 +3,7 @@ ghost use Rattle.std.specs.Prelude.{◌≡◌};
 ghost use Rattle.trial.specs.Refusal.{stop_number};
 
 // 4,096 steps stand, the fire has ended, it has no reading, or the step would end above 1,200 degrees.
-#[derive(Clone, Copy)]
+#[derive(Clone, Copy, PartialEq, Eq, Debug)]
 pub enum Stop {
     SheetFull,
     FireEnded,

@@ -41,8 +41,8 @@ impl<S: Steel, F: Fire> Sheet<S, F> {
     {
         match call {
             Call::Heat(asked) => {
-                let (made, stop) = self.heat(asked);
-                Answer::Heated(made, stop)
+                let (made, stop) = self.make_steps(asked);
+                Answer::Heated { made, stop }
             }
             Call::Back(steps) => outcome(self.back(steps)),
             Call::Load(load) => outcome(self.load(load)),

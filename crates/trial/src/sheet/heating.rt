@@ -3,12 +3,10 @@ ghost use Rattle.std.specs.Prelude.{◌≡◌, ◌*◌, ◌≤◌, pos, ◌+ℤ�
 ghost use Rattle.std.specs.Result.{result_err};
 ghost use Rattle.member_check.specs.Members.{figures_of};
 ghost use Rattle.fires.specs.Meaning.{Within};
-ghost use Rattle.trial.specs.Calls.{after_heat, heat_answer, next_capacity, next_end, next_reading, next_stop};
-ghost use Rattle.trial.specs.Course.{stop_code};
+ghost use Rattle.trial.specs.Calls.{after_heat, heat_answer, heat_made, heat_stop, reply, next_capacity, next_end, next_reading, next_stop};
 ghost use Rattle.trial.specs.Heating.{at_least, rise};
 ghost use Rattle.trial.specs.Law.{Lawful};
 ghost use Rattle.trial.specs.Views.{Same, view_of};
-ghost use Rattle.trial.specs.declared.call.Answer.TheVariants.{Heated};
 ghost use Rattle.trial.specs.declared.call.Call.TheVariants.{Heat};
 
 use crate::sheet::Sheet;
@@ -98,9 +96,9 @@ impl<S: Steel, F: Fire> Sheet<S, F> {
     }
 
     // Makes steps one by one until all that are asked for are made or one is stopped: how many were made, and what stopped the next.
-    fn make_steps(&mut self, asked: usize) -> (usize, Option<Stop>)
-        ensures made { result.0 ≡ (heat_answer (view_of S.Steel F.Fire self.old) asked).0 }
-        ensures stop { stop_code result.1 ≡ (heat_answer (view_of S.Steel F.Fire self.old) asked).1 }
+    pub(crate) fn make_steps(&mut self, asked: usize) -> (usize, Option<Stop>)
+        ensures made { result.0 ≡ heat_made (view_of S.Steel F.Fire self.old) asked }
+        ensures stop { result.1 ≡ heat_stop (view_of S.Steel F.Fire self.old) asked }
         ensures after { Same (after_heat (view_of S.Steel F.Fire self.old) asked) (view_of S.Steel F.Fire self.new) }
     {
         for made in 0..asked {
@@ -117,17 +115,14 @@ impl<S: Steel, F: Fire> Sheet<S, F> {
         ensures after { Same (after_heat (view_of S.Steel F.Fire self.old) asked) (view_of S.Steel F.Fire self.new) }
     {
         let (made, stop) = self.make_steps(asked);
-        match stop {
-            Some(stop) => (made, stop.number()),
-            None => (made, 0),
-        }
+        (made, stop.map_or(0, |stop| stop.number()))
     }
 
     // Heats by the steps asked for: how many were made, and the number of what stopped the next, 0 if all were made.
     pub fn heat(&mut self, asked: usize) -> (usize, u32)
         ensures answer { result ≡ heat_answer (view_of S.Steel F.Fire self.old) asked }
         ensures after { Same (after_heat (view_of S.Steel F.Fire self.old) asked) (view_of S.Steel F.Fire self.new) }
-        ensures law { Lawful (view_of S.Steel F.Fire self.old) (Heat asked) (Heated result.0 result.1) (view_of S.Steel F.Fire self.new) }
+        ensures law { Lawful (view_of S.Steel F.Fire self.old) (Heat asked) (reply (view_of S.Steel F.Fire self.old) (Heat asked)) (view_of S.Steel F.Fire self.new) }
     {
         self.heated(asked)
     }
