@@ -9,11 +9,12 @@ use Rattle.trial.specs.Questions.{fails, hottest}
 use Rattle.trial.specs.Course.{entry, end}
 use Rattle.trial.specs.Views.{Same, View, new_view}
 use Rattle.trial.specs.Answers.{carried_cold, critical_under, judged}
-use Rattle.trial.specs.Calls.{after, after_heat, hottest_in, outcome_of, reply}
+use Rattle.trial.specs.Calls.{after, after_heat, hottest_in, reply}
 use Rattle.trial.specs.Refusal.{refused}
 use Rattle.trial.specs.Tally.{Tally, answer, start, tallied, tally}
 use Rattle.trial.specs.Law.{Follows, Equal, AsHeatedAtOnce, Highest, Lowest, Verdict, Law, Lawful}
 use Rattle.trial.specs.declared.call.Answer.{Answer}
+use Rattle.trial.specs.declared.call.Answer.TheVariants.{Done}
 use Rattle.trial.specs.declared.call.Call.{Call}
 use Rattle.trial.specs.declared.call.Call.TheVariants.{Heat}
 use Rattle.trial.specs.declared.refusal.Refusal.{Refusal}
@@ -118,7 +119,7 @@ lawful v w c r fy fz told same p calls h =
 -- the same for a call that can refuse
 pub settled_lawful : (v w : View) (c : Call) (good : Bool) (cause : Refusal) (result : Result (Unit {0}) Refusal) (u : View)
     → Factor w.parts.strength → Factor w.parts.stiffness → judged good cause ≡ reply v c → cond good u v ≡ after v c
-    → option_map refused (result_err result) ≡ cond good None (Some (refused cause)) → IfOk result (λ _. Same u w) → (is_ok result ≡ false → w ≡ v) → Lawful v c (outcome_of result) w
+    → option_map refused (result_err result) ≡ cond good None (Some (refused cause)) → IfOk result (λ _. Same u w) → (is_ok result ≡ false → w ≡ v) → Lawful v c (Done result) w
 settled_lawful v w c good cause result u fy fz says goes fault taken kept =
-    let owed = settled_call v w c c good cause result (outcome_of result) u refl refl says goes fault taken kept in
-    lawful v w c (outcome_of result) fy fz owed.answer owed.after
+    let owed = settled_call v w c c good cause result (Done result) u refl refl says goes fault taken kept in
+    lawful v w c (Done result) fy fz owed.answer owed.after

@@ -3,10 +3,11 @@ use Rattle.std.proofs.Common.{◌≡◌, ℕ, Bool, true, false, cond, is_ok, If
 use Rattle.std.specs.Option.{option_map}
 use Rattle.std.specs.Result.{result_err}
 use Rattle.trial.specs.Answers.{judged}
-use Rattle.trial.specs.Calls.{after, reply, outcome_of}
+use Rattle.trial.specs.Calls.{after, reply}
 use Rattle.trial.specs.Refusal.{Refused as Number, refused}
 use Rattle.trial.specs.Views.{Same, View}
 use Rattle.trial.specs.declared.call.Answer.{Answer}
+use Rattle.trial.specs.declared.call.Answer.TheVariants.{Done}
 use Rattle.trial.specs.declared.call.Call.{Call}
 use Rattle.trial.specs.declared.refusal.Refusal.{Refusal}
 use Rattle.trial.specs.declared.refusal.Refusal.TheVariants.{BackBeyondStart, NotCarriedCold}
@@ -21,7 +22,7 @@ refused_same BackBeyondStart NotCarriedCold e = let z : ◌≡◌ {A = ℕ} 12 1
 
 module _ (v w : View) where
   settled : (good : Bool) (cause : Refusal) (result : Result (Unit {0}) Refusal) (u : View) → option_map refused (result_err result) ≡ cond good None (Some (refused cause))
-      → IfOk result (λ _. Same u w) → (is_ok result ≡ false → w ≡ v) → (outcome_of result ≡ judged good cause) × Same (cond good u v) w
+      → IfOk result (λ _. Same u w) → (is_ok result ≡ false → w ≡ v) → (Done result ≡ judged good cause) × Same (cond good u v) w
   settled true cause (Ok x) u fault taken kept = (refl, taken)
   settled true cause (Err e) u fault taken kept = let z : ◌≡◌ {A = ℕ} 0 1 = cc in absurd (omega arith)
   settled false cause (Ok x) u fault taken kept = let z : ◌≡◌ {A = ℕ} 0 1 = cc in absurd (omega arith)
@@ -31,7 +32,7 @@ module _ (v w : View) where
 
   -- so for the call that it was
   pub settled_call : (call given : Call) (good : Bool) (cause : Refusal) (result : Result (Unit {0}) Refusal) (r : Answer) (u : View)
-      → call ≡ given → r ≡ outcome_of result → judged good cause ≡ reply v given → cond good u v ≡ after v given
+      → call ≡ given → r ≡ Done result → judged good cause ≡ reply v given → cond good u v ≡ after v given
       → option_map refused (result_err result) ≡ cond good None (Some (refused cause)) → IfOk result (λ _. Same u w) → (is_ok result ≡ false → w ≡ v)
       → record { answer : r ≡ reply v call; after : Same (after v call) w }
   settled_call call given good cause result r u is told says goes fault taken kept =

@@ -1,5 +1,5 @@
 -- What each call answers and does, in whatever state a sheet is.
-use Rattle.std.specs.Prelude.{ℕ, ◌+◌, ◌-◌, ◌/◌, cond, [], Some, None, Ok, Err, Option, Result, nat_le}
+use Rattle.std.specs.Prelude.{ℕ, ◌+◌, ◌-◌, ◌/◌, cond, [], Some, None, Option, nat_le}
 use Rattle.fires.specs.declared.meaning.Reading.{Reading}
 use Rattle.trial.specs.Parts.{Parts}
 use Rattle.trial.specs.Refusal.{Refused}
@@ -9,11 +9,10 @@ use Rattle.trial.specs.Course.{ahead, made_ahead, stop_code, stopped_ahead}
 use Rattle.trial.specs.Answers.{can_go_back, carried_cold, critical_under, judged, told}
 use Rattle.trial.specs.Views.{View, last_of}
 use Rattle.trial.specs.declared.call.Answer.{Answer}
-use Rattle.trial.specs.declared.call.Answer.TheVariants.{Heated, Accepted, Refused as Denied}
+use Rattle.trial.specs.declared.call.Answer.TheVariants.{Heated}
 use Rattle.trial.specs.declared.call.Call.{Call}
 use Rattle.trial.specs.declared.call.Call.TheVariants.{Heat, Back, Load, Ask}
 use Rattle.trial.specs.declared.call.Question.{Question}
-use Rattle.trial.specs.declared.refusal.Refusal.{Refusal}
 use Rattle.trial.specs.declared.refusal.Refusal.TheVariants.{NotCarriedCold, BackBeyondStart}
 use Rattle.trial.specs.declared.stop.Stop.{Stop}
 
@@ -45,11 +44,6 @@ next_stop v = stop_of v.parts v.standing (last_of v)
 
 abbrev pub next_end : View → ℕ
 next_end v = stepped v.parts v.standing (last_of v)
-
--- a result as an answer
-abbrev pub outcome_of : Result (Unit {0}) Refusal → Answer
-outcome_of (Ok x) = Accepted
-outcome_of (Err e) = Denied e
 
 -- the refusal that a back and a load meet, if any
 abbrev pub back_fault : ℕ → ℕ → Option Refused

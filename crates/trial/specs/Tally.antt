@@ -1,10 +1,10 @@
 -- The tally of a list of calls: a count and a load, kept without a sheet from the parts' meaning and the calls alone.
-use Rattle.std.specs.Prelude.{ℕ, ◌+◌, ◌-◌, cond, List, [], ◌∷◌, None, nat_le}
+use Rattle.std.specs.Prelude.{ℕ, ◌+◌, ◌-◌, cond, List, [], ◌∷◌, None, Ok, Err, nat_le}
 use Rattle.trial.specs.Parts.{Parts}
 use Rattle.trial.specs.Course.{end, end_cause, entry}
 use Rattle.trial.specs.Answers.{can_go_back, carried_cold, judged, told}
 use Rattle.trial.specs.declared.call.Answer.{Answer}
-use Rattle.trial.specs.declared.call.Answer.TheVariants.{Heated, Accepted, Refused as Denied, Standing as Steps, Temperature, Hottest as Highest, CriticalTemperature as Critical, FirstFailing as Failing}
+use Rattle.trial.specs.declared.call.Answer.TheVariants.{Heated, Done, Standing as Steps, Temperature, Hottest as Highest, CriticalTemperature as Critical, FirstFailing as Failing}
 use Rattle.trial.specs.declared.call.Call.{Call}
 use Rattle.trial.specs.declared.call.Call.TheVariants.{Heat, Back, Load, Ask}
 use Rattle.trial.specs.declared.refusal.Refusal.TheVariants.{NotCarriedCold, BackBeyondStart}
@@ -36,8 +36,8 @@ accepted y (Ask q) = y
 -- changes nothing
 abbrev pub noted : Tally → Call → Answer → Tally
 noted y c (Heated made stop) = record { count = y.count + made; load = y.load }
-noted y c Accepted = accepted y c
-noted y c (Denied refusal) = y
+noted y c (Done (Ok x)) = accepted y c
+noted y c (Done (Err refusal)) = y
 noted y c (Steps n) = y
 noted y c (Temperature t) = y
 noted y c (Highest t) = y

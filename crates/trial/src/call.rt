@@ -3,7 +3,7 @@ use crate::refusal::Refusal;
 use crate::stop::Stop;
 
 // Questions change nothing. A step is asked for by its number.
-#[derive(Clone, Copy)]
+#[derive(Clone, Copy, PartialEq, Eq, Debug)]
 pub enum Question {
     Standing,
     TemperatureAt(usize),
@@ -12,7 +12,7 @@ pub enum Question {
     FirstFailing,
 }
 
-#[derive(Clone, Copy)]
+#[derive(Clone, Copy, PartialEq, Eq, Debug)]
 pub enum Call {
     Heat(usize),
     Back(usize),
@@ -21,12 +21,12 @@ pub enum Call {
 }
 
 // Temperatures of steps are in millidegrees, the critical one in degrees.
-#[derive(Clone, Copy)]
+#[derive(Clone, Copy, PartialEq, Eq, Debug)]
 pub enum Answer {
     // how many steps were made, and what stopped the next, if anything
     Heated { made: usize, stop: Option<Stop> },
-    Accepted,
-    Refused(Refusal),
+    // a back or a load: accepted, or refused
+    Done(Result<(), Refusal>),
     Standing(usize),
     Temperature(Option<u32>),
     Hottest(u32),

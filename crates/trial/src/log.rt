@@ -12,7 +12,7 @@ use member_check::Member;
 use steels::Steel;
 
 // A call, and its answer once it is made.
-#[derive(Clone, Copy)]
+#[derive(Clone, Copy, PartialEq, Eq, Debug)]
 pub struct Logged {
     pub call: Call,
     pub answer: Option<Answer>,
