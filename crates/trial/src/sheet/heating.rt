@@ -16,8 +16,6 @@ use member_check::Member;
 use rounding::rounded_up;
 use steels::Steel;
 
-const MOST_STEPS: usize = 4096;
-
 const COLDEST: i64 = 20_000;
 
 const LIMIT: u32 = 1_200_000;
@@ -75,7 +73,7 @@ impl<S: Steel, F: Fire> Sheet<S, F> {
         ensures end { IfOk result (λ t. t ≡ next_end (view_of S.Steel F.Fire self.now)) }
         ensures range { IfOk result (λ t. (20000 ≤ t) × (t ≤ 1200000)) }
     {
-        if self.column.standing() >= MOST_STEPS {
+        if self.column.is_full() {
             return Err(Stop::SheetFull);
         }
         match self.next_reading() {
