@@ -31,24 +31,27 @@ fn exposure(member: &Member) -> u64
 fn inertia(capacity: u32) -> u64
     ensures { result ≡ capacity * 7850 }
 {
-    capacity as u64 * 7850
+    u64::from(capacity) * 7850
 }
 
 // The rise in millidegrees, rounded up for gain and loss.
 fn rise(member: &Member, capacity: u32, flux: i32) -> i64
-    requires { (300 ≤ capacity) × ((capacity ≤ 6000) × (Within 400000 flux)) }
+    requires least { 300 ≤ capacity }
+    requires most { capacity ≤ 6000 }
+    requires flux { Within 400000 flux }
     ensures value { result ≡ rise (figures_of member.now) capacity flux }
     ensures range { Within 1000000 result }
 {
-    rounded_up(flux as i64 * exposure(member) as i64, inertia(capacity))
+    rounded_up(i64::from(flux) * exposure(member) as i64, inertia(capacity))
 }
 
 // The temperature that a rise leads to.
 fn risen(temperature: u32, rise: i64) -> u32
-    requires { (temperature ≤ 1200000) × (Within 1000000 rise) }
+    requires most { temperature ≤ 1200000 }
+    requires rise { Within 1000000 rise }
     ensures { result ≡ at_least 20000 (pos temperature +ℤ rise) }
 {
-    (temperature as i64 + rise).max(COLDEST) as u32
+    (i64::from(temperature) + rise).max(COLDEST) as u32
 }
 
 impl<S: Steel, F: Fire> Sheet<S, F> {
@@ -71,7 +74,8 @@ impl<S: Steel, F: Fire> Sheet<S, F> {
     fn next(&self) -> Result<u32, Stop>
         ensures stop { result_err result ≡ next_stop (view_of S.Steel F.Fire self.now) }
         ensures end { IfOk result (λ t. t ≡ next_end (view_of S.Steel F.Fire self.now)) }
-        ensures range { IfOk result (λ t. (20000 ≤ t) × (t ≤ 1200000)) }
+        ensures least { IfOk result (λ t. 20000 ≤ t) }
+        ensures most { IfOk result (λ t. t ≤ 1200000) }
     {
         if self.column.is_full() {
             return Err(Stop::SheetFull);
