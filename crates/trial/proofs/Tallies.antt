@@ -1,6 +1,7 @@
 -- Tallies, call by call.
-use Rattle.std.proofs.Common.{◌≡◌, ℕ, ◌+◌, ◌<◌, ◌≤◌, min, Bool, true, false, cond, leb, List, [], ◌∷◌, ◌++◌, None, Option, sym, refl, ap, ◌∙◌, subst, ⊎_elim, arith}
-use Rattle.std.proofs.lemmas.Bool.{cases_lt, cond_both, cond-false, cond-true, le-leb, lt-leb}
+use Rattle.std.proofs.Common.{◌≡◌, ℕ, ◌+◌, ◌≤◌, min, Bool, true, false, cond, leb, List, [], ◌∷◌, ◌++◌, None, Option, sym, refl, ap, subst, arith}
+use Rattle.std.proofs.lemmas.Bool.{cond_both}
+use Rattle.std.proofs.lemmas.Bool.Decides.{nat_tests}
 use Rattle.member_check.proofs.Falling.{passes_unloaded}
 use Rattle.trial.specs.Parts.{Parts}
 use Rattle.trial.specs.Course.{end, end_cause, entry}
@@ -23,10 +24,7 @@ changed p y (Load load) = cond (carried_cold p load) (accepted y (Load load)) y
 changed p y (Ask q) = y
 
 noted_heat : (y : Tally) (asked left : ℕ) (stop : Option Stop) → noted y (Heat asked) (cond (leb asked left) (Heated asked None) (Heated left stop)) ≡ record { count = y.count + min asked left; load = y.load }
-noted_heat y asked left stop =
-    ⊎_elim (λ (l : left < asked). ap (noted y (Heat asked)) (cond-false (leb asked left) _ _ (lt-leb _ _ l)) ∙ ap (λ n. record { count = y.count + n; load = y.load }) (omega arith))
-    (λ (l : asked ≤ left). ap (noted y (Heat asked)) (cond-true (leb asked left) _ _ (le-leb _ _ l)) ∙ ap (λ n. record { count = y.count + n; load = y.load }) (omega arith))
-    (cases_lt left asked)
+noted_heat y asked left stop = grind (arith, nat_tests)
 
 noted_judged : (y : Tally) (c : Call) (good : Bool) (r : Refusal) → noted y c (judged good r) ≡ cond good (accepted y c) y
 noted_judged y c true r = refl

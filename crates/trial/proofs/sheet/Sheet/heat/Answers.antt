@@ -5,5 +5,5 @@ use Rattle.trial.proofs.sheet.Sheet.heat.Goals as goal
 
 pub returns-clause-law : goal.returns-clause-law
 returns-clause-law g c =
-    let steel = c.heated.new.self.steel in
-    lawful _ _ (Heat c.args.asked) _ (g.met.S.Steel.strength_law steel) (g.met.S.Steel.stiffness_law steel) refl c.heated.ensures.after
+    lawful g.S.Steel g.F.Fire g.met.S.Steel.strength_law g.met.S.Steel.stiffness_law c.args.self.now c.heated.new.self (Heat c.args.asked) _
+    (record { answer = refl; after = c.heated.ensures.after })
