@@ -1,6 +1,5 @@
 -- A sheet follows the tally of its calls: at first, and from call to call.
-use Rattle.std.proofs.Common.{◌≡◌, ℕ, suc, ◌+◌, ◌-◌, ◌<◌, ◌≤◌, min, Bool, true, false, cond, leb, List, [], ◌∷◌, ◌++◌, None, Option, sym, refl, ap, ◌∙◌, subst, ⊎_elim, arith}
-use Rattle.std.proofs.lemmas.Bool.{cases_lt, cond-true, cond-false, le-leb, lt-leb}
+use Rattle.std.proofs.Common.{◌≡◌, ℕ, suc, ◌-◌, ◌≤◌, min, Bool, true, false, cond, leb, List, [], ◌∷◌, ◌++◌, None, Option, refl, ap, ◌∙◌, subst, arith}
 use Rattle.std.proofs.lemmas.Bool.Decides.{nat_tests}
 use Rattle.trial.specs.Parts.{Parts}
 use Rattle.trial.specs.Questions.{fails}
@@ -96,11 +95,7 @@ module _ (calls : List Call) (v : View) (h : Follows v.parts calls v) where
   now = record { parts = refl; standing = h.standing; load = h.load; course = h.course }
 
   heated_course : (k : ℕ) → cond (leb k n) (v.temperature k) (ahead p n (v.temperature n) (k - n)) ≡ entry p k
-  heated_course k =
-      ⊎_elim
-      (λ (l : n < k). let e : n + (k - n) ≡ k = omega arith in
-      cond-false (leb k n) _ _ (lt-leb k n l) ∙ (ap (λ t. ahead p n t (k - n)) (h.course n (omega arith)) ∙ (sym (ahead_on p 20000 n (k - n)) ∙ ap (entry p) e)))
-      (λ (l : k ≤ n). cond-true (leb k n) _ _ (le-leb k n l) ∙ h.course k l) (cases_lt n k)
+  heated_course k = grind (arith, nat_tests, h.course k, h.course n, ahead_on p 20000 n (k - n))
 
   stands : (c : Call) → Stands p (changed p y c) (after v c)
   stands (Heat asked) = record { parts = refl; standing = cc (h.standing, reach_left); load = h.load; course = λ k _. heated_course k }
