@@ -70,6 +70,7 @@ impl Column {
         ensures { result ≡ hottest (temperature_of self.now) (steps_of self.now) }
     {
         let mut highest = self.temperatures[0];
+        // A form that the project keeps: a range of steps, and the column read by index.
         for step in 0..self.temperatures.len() {
             highest = highest.max(self.temperatures[step]);
         }
@@ -80,6 +81,7 @@ impl Column {
     pub(crate) fn first_above(&self, limit: u32) -> Option<usize>
         ensures { result ≡ first (λ k. nat_lt limit (temperature_of self.now k)) (steps_of self.now + 1) }
     {
+        // A form that the project keeps: a range of steps, and the column read by index.
         for step in 0..self.temperatures.len() {
             if limit < self.temperatures[step] {
                 return Some(step);

@@ -121,6 +121,7 @@ impl<S: Steel, F: Fire> Sheet<S, F> {
     }
 
     // Heats by the steps asked for: how many were made, and the number of what stopped the next, 0 if all were made.
+    // A pair of plain numbers is a form that the project keeps; `call` answers with the stop itself.
     pub fn heat(&mut self, asked: usize) -> (usize, u32)
         ensures answer { result ≡ heat_answer (view_of S.Steel F.Fire self.old) asked }
         ensures after { Same (after_heat (view_of S.Steel F.Fire self.old) asked) (view_of S.Steel F.Fire self.new) }
