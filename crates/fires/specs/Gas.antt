@@ -1,10 +1,10 @@
 -- A gas curve by its temperatures.
-use Rattle.std.specs.Prelude.{ℕ, suc, ◌+◌, ◌/◌, ◌^◌, ◌<◌, ◌≤◌, min, max, cond, ◌&&◌, List, [], ◌∷◌, length, take, ℤ, pos, ◌+ℤ◌, ◌-ℤ◌, ◌*ℤ◌, Some, None, Option, nat_le, nat_lt, slice_index}
+use Rattle.std.specs.Prelude.{ℕ, suc, ◌+◌, ◌/◌, ◌^◌, ◌<◌, ◌≤◌, min, max, cond, ◌&&◌, List, [], ◌∷◌, length, take, ℤ, pos, ◌+ℤ◌, ◌-ℤ◌, ◌*ℤ◌, Some, None, Ok, Err, Option, nat_le, nat_lt, slice_index}
 use Rattle.rounding.specs.Quotient.{rounded_up}
 use Rattle.fires.specs.Refusal.{Refused}
 use Rattle.fires.specs.declared.gas.GasCurve.{GasCurve}
-use Rattle.fires.specs.declared.meaning.Reading.{Reading}
-use Rattle.fires.specs.declared.meaning.Reading.TheVariants.{Flux, Ended}
+use Rattle.fires.specs.Meaning.{Reading}
+use Rattle.fires.specs.declared.meaning.NoFlux.TheVariants.{Ended}
 
 -- the gas temperatures of a curve, in whole degrees
 abbrev pub temperatures_of : GasCurve → List ℕ
@@ -22,7 +22,7 @@ gas_flux g s =
 
 -- what is said of a step: the flux from its gas temperature, as long as there is one
 abbrev pub gas_tells : List ℕ → ℕ → ℕ → Reading
-gas_tells gs k t = cond (nat_lt k (length gs)) (Flux (gas_flux (slice_index gs k) (steel_degree t))) Ended
+gas_tells gs k t = cond (nat_lt k (length gs)) (Ok (gas_flux (slice_index gs k) (steel_degree t))) (Err Ended)
 
 -- a whole degree from 20 to 1,200
 abbrev pub GasDegree : ℕ → Type 0

@@ -1,5 +1,5 @@
 -- The answers of a gas curve keep the laws of a fire.
-use Rattle.std.specs.Prelude.{◌≡◌, ℕ, ◌+◌, ◌*◌, ◌^◌, ◌<◌, ◌≤◌, List, length, take, ℤ, pos, ◌+ℤ◌, ◌-ℤ◌, ◌*ℤ◌, nat_lt, slice_index}
+use Rattle.std.specs.Prelude.{◌≡◌, ℕ, ◌+◌, ◌*◌, ◌^◌, ◌<◌, ◌≤◌, List, length, take, ℤ, pos, ◌+ℤ◌, ◌-ℤ◌, ◌*ℤ◌, Ok, Err, nat_lt, slice_index}
 use Rattle.std.proofs.Common.{sym, arith, of_z, to_z}
 use Rattle.std.proofs.Math.Nat.{pow-le-pow_left}
 use Rattle.std.specs.Int.{w32, w64}
@@ -10,7 +10,7 @@ use Rattle.std.proofs.lemmas.Bool.{cond_both, cond-false, cond-true, le-ltb, lt-
 use Rattle.std.proofs.lemmas.Bool.Decides.{nat_tests}
 use Rattle.fires.specs.Gas.{GasDegree, GasDegrees, gas_flux, gas_tells, steel_degree}
 use Rattle.fires.specs.Meaning.{Answers, InRange, Within}
-use Rattle.fires.specs.declared.meaning.Reading.TheVariants.{Flux, Ended}
+use Rattle.fires.specs.declared.meaning.NoFlux.TheVariants.{Ended}
 use Rattle.fires.specs.RoundedWithin.{rounded_within}
 
 -- a fourth power is at most that of the hottest degree
@@ -35,7 +35,7 @@ module _ (g s : ℕ) (gas : GasDegree g) (steel : GasDegree s) where
   pub radiation_within : Within 200000 (rounded_up (pos 3969 *ℤ (pos ((g + 273) ^ 4) -ℤ pos ((s + 273) ^ 4))) 100_000_000_000)
   radiation_within = rounded_within _ 200000 100_000_000_000 (omega arith) radiated
 
-  gas_range : InRange (Flux (gas_flux g s))
+  gas_range : InRange (Ok (gas_flux g s))
   gas_range = omega (arith, ints, radiation_within)
 
 -- the steel's degree lies in the same range as the gas
@@ -45,7 +45,7 @@ steel_degree_within t = omega arith
 pub gas_answers : (gs : List ℕ) → GasDegrees gs → Answers (length gs) (gas_tells gs)
 gas_answers gs each =
     record {
-      range = λ k t. cond_both (nat_lt k (length gs)) _ Ended InRange
+      range = λ k t. cond_both (nat_lt k (length gs)) _ (Err Ended) InRange
           (λ e. gas_range (slice_index gs k) (steel_degree t) (each k (ltb-true _ _ e)) (steel_degree_within t)) (λ _. tt);
       cold = λ k t h. let e : steel_degree t ≡ 20 = omega arith in simp e;
       hot = λ k t h. let e : steel_degree t ≡ 1200 = omega arith in simp e;
@@ -55,7 +55,7 @@ gas_answers gs each =
 
 -- what a step's place in the store says is what the curve says
 pub gas_place : (store : List ℕ) (count k t : ℕ) → count ≤ length store → k < count
-    → Flux (gas_flux (slice_index store k) (steel_degree t)) ≡ gas_tells (take count store) k t
+    → Ok (gas_flux (slice_index store k) (steel_degree t)) ≡ gas_tells (take count store) k t
 gas_place store count k t fits h =
     let n : length (take count store) ≡ count = length-take-le count store fits in
     let within : k < length (take count store) = rw n h in

@@ -10,7 +10,7 @@ ghost use Rattle.std.proofs.lemmas.List.{get_or-take, length-take};
 ghost use Rattle.fires.specs.GasLaws.{gas_answers};
 
 use crate::gas::GasCurve;
-use crate::meaning::{Fire, Reading};
+use crate::meaning::{Fire, NoFlux};
 use crate::refusal::Refusal;
 
 const MOST_STEPS: usize = 4096;
@@ -125,10 +125,10 @@ impl Fire for GasCurve {
         self.count
     }
 
-    fn reading_at(&self, step: usize, temperature: u32) -> Reading {
+    fn reading_at(&self, step: usize, temperature: u32) -> Result<i32, NoFlux> {
         if step >= self.count {
-            return Reading::Ended;
+            return Err(NoFlux::Ended);
         }
-        Reading::Flux(net_flux(self.store[step], steel_degree(temperature)))
+        Ok(net_flux(self.store[step], steel_degree(temperature)))
     }
 }

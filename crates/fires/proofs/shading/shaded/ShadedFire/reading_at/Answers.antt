@@ -1,8 +1,7 @@
-use Rattle.std.proofs.Common.{◌≡◌, ℤ, pos, ◌*ℤ◌, ap, ◌∙◌, arith, w32, w64, to_z, of_z}
+use Rattle.std.proofs.Common.{◌≡◌, ℤ, Ok, pos, ◌*ℤ◌, ap, ◌∙◌, arith, w32, w64, to_z, of_z}
 use Rattle.rounding.specs.Quotient.{rounded_up}
 use Rattle.std.proofs.lemmas.Int.{ints}
 use Rattle.fires.specs.Shaded.{shaded_reading}
-use Rattle.fires.specs.declared.meaning.Reading.TheVariants.{Flux}
 use Rattle.fires.specs.FluxProducts.{widened_fits, widened_product}
 use Rattle.fires.specs.Meaning.{Within}
 use Rattle.fires.specs.ShadedLaws.{flux_told, shaded_within}
@@ -12,16 +11,16 @@ use Rattle.fires.proofs.shading.shaded.ShadedFire.reading_at.Goals as goal
 pub overflow_mul-flux : goal.overflow_mul-flux
 overflow_mul-flux g c =
     let answers = g.met.F.Fire.answers c.args.self.now.below in
-    let told = flux_told _ _ answers c.args.step c.args.temperature _ c.in-Flux.ensures in
+    let told = flux_told _ _ answers c.args.step c.args.temperature _ c.in_ok-flux.ensures in
     widened_fits _ _ told (omega (arith, c.args.self.now.shading.most))
 
 module _ (g : Over) (c : goal.After-rounded_up g) where
-  told : Within 400000 c.in-Flux.flux
+  told : Within 400000 c.in_ok-flux.flux
   told =
       let answers = g.met.F.Fire.answers c.args.self.now.below in
-      flux_told _ _ answers c.args.step c.args.temperature _ c.in-Flux.ensures
+      flux_told _ _ answers c.args.step c.args.temperature _ c.in_ok-flux.ensures
 
-  rounded : c.rounded_up.result ≡ rounded_up (c.in-Flux.flux *ℤ pos c.args.self.now.shading.thousandths) 1000
+  rounded : c.rounded_up.result ≡ rounded_up (c.in_ok-flux.flux *ℤ pos c.args.self.now.shading.thousandths) 1000
   rounded =
       c.rounded_up.ensures.value
       ∙ ap (λ (z : ℤ). rounded_up z 1000) (widened_product _ _ told (omega (arith, c.args.self.now.shading.most)))
@@ -35,7 +34,7 @@ module _ (g : Over) (c : goal.After-rounded_up g) where
 pub overflow_cast-result : goal.overflow_cast-result
 overflow_cast-result g c = omega (arith, ints, within g c)
 
-pub returns-in-Flux : goal.returns-in-Flux
-returns-in-Flux g c =
-    ap Flux (narrowed g c ∙ rounded g c)
-    ∙ ap (shaded_reading c.args.self.now.shading.thousandths) c.in-Flux.ensures
+pub returns : goal.returns
+returns g c =
+    ap Ok (narrowed g c ∙ rounded g c)
+    ∙ ap (shaded_reading c.args.self.now.shading.thousandths) c.in_ok-flux.ensures
