@@ -1,5 +1,5 @@
 -- A gas curve by its temperatures.
-use Rattle.std.specs.Prelude.{ℕ, suc, ◌+◌, ◌/◌, ◌^◌, ◌<◌, ◌≤◌, min, max, cond, ◌&&◌, List, [], ◌∷◌, length, take, ℤ, pos, ◌+ℤ◌, ◌-ℤ◌, ◌*ℤ◌, Some, None, Ok, Err, Option, nat_le, nat_lt, slice_index}
+use Rattle.std.specs.Prelude.{ℕ, suc, ◌+◌, ◌/◌, ◌^◌, ◌<◌, ◌≤◌, min, max, Bool, cond, ◌&&◌, List, [], ◌∷◌, length, take, ℤ, pos, ◌+ℤ◌, ◌-ℤ◌, ◌*ℤ◌, Some, None, Ok, Err, Option, nat_le, nat_lt, slice_index}
 use Rattle.rounding.specs.Quotient.{rounded_up}
 use Rattle.fires.specs.Refusal.{Refused}
 use Rattle.fires.specs.declared.gas.GasCurve.{GasCurve}
@@ -32,10 +32,14 @@ GasDegree g = (20 ≤ g) × (g ≤ 1200)
 abbrev pub GasDegrees : List ℕ → Type 0
 GasDegrees gs = (k : ℕ) → k < length gs → GasDegree (slice_index gs k)
 
+-- whether a whole degree is from 20 to 1,200
+abbrev pub is_gas_degree : ℕ → Bool
+is_gas_degree g = nat_le 20 g && nat_le g 1200
+
 -- the first temperature outside 20 to 1,200, counted from i
 abbrev pub outside_from : ℕ → List ℕ → Option Refused
 outside_from i [] = None
-outside_from i (g ∷ gs) = cond (nat_le 20 g && nat_le g 1200) (outside_from (suc i) gs) (Some (9, i ∷ []))
+outside_from i (g ∷ gs) = cond (is_gas_degree g) (outside_from (suc i) gs) (Some (9, i ∷ []))
 
 -- the length comes first
 abbrev pub gas_fault : List ℕ → Option Refused

@@ -1,8 +1,9 @@
 // A gas curve: handed in as whole gas temperatures, and asked as a fire (EN 1991-1-2, with emissivity 0.7 and 25 W/(m² K)).
-ghost use Rattle.std.specs.Prelude.{◌≡◌, ◌+◌, ◌^◌, ◌<◌, false, ◌&&◌, [], length, pos, ◌*ℤ◌, neg_ℤ, ◌≤ℤ◌, is_some, is_ok, OnOk, nat_le};
+ghost use Rattle.std.specs.Prelude.{◌≡◌, ◌+◌, ◌^◌, ◌<◌, false, [], length, pos, ◌*ℤ◌, neg_ℤ, ◌≤ℤ◌, is_some, is_ok, OnOk, not};
+ghost use Rattle.std.specs.List.{position};
 ghost use Rattle.std.specs.Option.{option_map};
 ghost use Rattle.std.specs.Result.{result_err};
-ghost use Rattle.fires.specs.Gas.{GasDegree, gas_fault, gas_flux, gas_tells, outside_from, steel_degree, temperatures_of};
+ghost use Rattle.fires.specs.Gas.{GasDegree, gas_fault, gas_flux, gas_tells, is_gas_degree, steel_degree, temperatures_of};
 ghost use Rattle.fires.specs.Refusal.{refused};
 ghost use Rattle.rounding.specs.Quotient.{rounded_up};
 ghost use Rattle.std.proofs.Common.{arith};
@@ -32,38 +33,34 @@ impl GasCurve {
         ensures taken { OnOk result (temperatures_of self.new ≡ temperatures.now) }
         ensures kept { is_ok result ≡ false → self.new ≡ self.old }
     {
-        if let Some(refusal) = fault(temperatures) {
-            return Err(refusal);
-        }
+        check_temperatures(temperatures)?;
         *self = holding(temperatures);
         Ok(())
     }
 }
 
-// Why the temperatures are refused, if they are: their number comes first.
-fn fault(temperatures: &[u32]) -> Option<Refusal>
-    ensures { option_map refused result ≡ gas_fault temperatures.now }
+// Refuses temperatures that a curve cannot have: their number comes first.
+fn check_temperatures(temperatures: &[u32]) -> Result<(), Refusal>
+    ensures { option_map refused (result_err result) ≡ gas_fault temperatures.now }
 {
     if temperatures.len() > MOST_STEPS {
-        return Some(Refusal::GasTemperature { step: MOST_STEPS });
+        return Err(Refusal::GasTemperature { step: MOST_STEPS });
     }
-    first_outside(temperatures)
+    match first_outside(temperatures) {
+        Some(step) => Err(Refusal::GasTemperature { step }),
+        None => Ok(()),
+    }
 }
 
 // The first step whose temperature lies outside 20 to 1,200.
-fn first_outside(temperatures: &[u32]) -> Option<Refusal>
-    ensures { option_map refused result ≡ outside_from 0 temperatures.now }
+fn first_outside(temperatures: &[u32]) -> Option<usize>
+    ensures { result ≡ position (λ gas. not (is_gas_degree gas)) temperatures.now }
 {
-    for (step, gas) in temperatures.iter().enumerate() {
-        if !is_gas_degree(*gas) {
-            return Some(Refusal::GasTemperature { step });
-        }
-    }
-    None
+    temperatures.iter().position(|gas| !is_gas_degree(*gas))
 }
 
 fn is_gas_degree(gas: u32) -> bool
-    ensures { result ≡ (nat_le 20 gas && nat_le gas 1200) }
+    ensures { result ≡ is_gas_degree gas }
 {
     20 <= gas && gas <= 1200
 }
