@@ -8,7 +8,8 @@ use Rattle.std.proofs.lemmas.List.{get_or-take, length-take-le}
 use Rattle.std.proofs.lemmas.Int.{ints}
 use Rattle.std.proofs.lemmas.Bool.{cond_both, cond-false, cond-true, le-ltb, lt-ltb, ltb-true}
 use Rattle.std.proofs.lemmas.Bool.Decides.{nat_tests}
-use Rattle.fires.specs.Gas.{GasDegree, GasDegrees, gas_flux, gas_tells, steel_degree}
+use Rattle.fires.specs.GasDegrees.{GasDegree, GasDegrees}
+use Rattle.fires.specs.Gas.{gas_flux, gas_tells, steel_degree}
 use Rattle.fires.specs.Meaning.{Answers, InRange, Within}
 use Rattle.fires.specs.declared.meaning.NoFlux.TheVariants.{Ended}
 use Rattle.fires.specs.RoundedWithin.{rounded_within}
@@ -52,11 +53,3 @@ gas_answers gs each =
       ended = λ k _ h. cond-false _ _ _ (le-ltb k (length gs) h);
       ends = λ k t e. grind (arith, nat_tests);
     }
-
--- what a step's place in the store says is what the curve says
-pub gas_place : (store : List ℕ) (count k t : ℕ) → count ≤ length store → k < count
-    → Ok (gas_flux (slice_index store k) (steel_degree t)) ≡ gas_tells (take count store) k t
-gas_place store count k t fits h =
-    let n : length (take count store) ≡ count = length-take-le count store fits in
-    let within : k < length (take count store) = rw n h in
-    rw (← get_or-take count store k 0 h) (sym (cond-true _ _ _ (lt-ltb k (length (take count store)) within)))

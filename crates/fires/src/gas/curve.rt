@@ -1,20 +1,18 @@
 // A gas curve: handed in as whole gas temperatures, and asked as a fire (EN 1991-1-2, with emissivity 0.7 and 25 W/(m² K)).
-ghost use Rattle.std.specs.Prelude.{◌≡◌, ◌+◌, ◌^◌, ◌<◌, false, [], length, pos, ◌*ℤ◌, neg_ℤ, ◌≤ℤ◌, is_some, is_ok, OnOk, not};
+ghost use Rattle.std.specs.Prelude.{◌≡◌, ◌+◌, ◌^◌, ◌<◌, false, [], length, pos, ◌*ℤ◌, neg_ℤ, ◌≤ℤ◌, is_ok, IfOk, OnOk, not};
 ghost use Rattle.std.specs.List.{position};
 ghost use Rattle.std.specs.Option.{option_map};
 ghost use Rattle.std.specs.Result.{result_err};
-ghost use Rattle.fires.specs.Gas.{GasDegree, gas_fault, gas_flux, gas_tells, is_gas_degree, steel_degree, temperatures_of};
+ghost use Rattle.fires.specs.Gas.{gas_fault, gas_flux, gas_tells, steel_degree, temperatures_of};
+ghost use Rattle.fires.specs.GasDegrees.{GasDegree, is_gas_degree};
 ghost use Rattle.fires.specs.Refusal.{refused};
 ghost use Rattle.rounding.specs.Quotient.{rounded_up};
-ghost use Rattle.std.proofs.Common.{arith};
-ghost use Rattle.std.proofs.lemmas.List.{get_or-take, length-take};
 ghost use Rattle.fires.specs.GasLaws.{gas_answers};
 
-use crate::gas::GasCurve;
+use crate::gas::{GasCurve, MOST_STEPS};
 use crate::meaning::{Fire, NoFlux};
 use crate::refusal::Refusal;
-
-const MOST_STEPS: usize = 4096;
+use arrayvec::ArrayVec;
 
 impl GasCurve {
     // A curve with no steps.
@@ -22,8 +20,7 @@ impl GasCurve {
         ensures { temperatures_of result ≡ [] }
     {
         GasCurve {
-            store: [20; 4096],
-            count: 0,
+            temperatures: ArrayVec::new(),
         }
     }
 
@@ -33,22 +30,22 @@ impl GasCurve {
         ensures taken { OnOk result (temperatures_of self.new ≡ temperatures.now) }
         ensures kept { is_ok result ≡ false → self.new ≡ self.old }
     {
-        check_temperatures(temperatures)?;
-        *self = holding(temperatures);
+        *self = curve_of(temperatures)?;
         Ok(())
     }
 }
 
-// Refuses temperatures that a curve cannot have: their number comes first.
-fn check_temperatures(temperatures: &[u32]) -> Result<(), Refusal>
-    ensures { option_map refused (result_err result) ≡ gas_fault temperatures.now }
+// The curve of the temperatures, or why they make none: their number comes first.
+fn curve_of(given: &[u32]) -> Result<GasCurve, Refusal>
+    ensures fault { option_map refused (result_err result) ≡ gas_fault given.now }
+    ensures taken { IfOk result (λ curve. temperatures_of curve ≡ given.now) }
 {
-    if temperatures.len() > MOST_STEPS {
+    let Ok(temperatures) = ArrayVec::try_from(given) else {
         return Err(Refusal::GasTemperature { step: MOST_STEPS });
-    }
-    match first_outside(temperatures) {
+    };
+    match first_outside(given) {
         Some(step) => Err(Refusal::GasTemperature { step }),
-        None => Ok(()),
+        None => Ok(GasCurve { temperatures }),
     }
 }
 
@@ -63,17 +60,6 @@ fn is_gas_degree(gas: u32) -> bool
     ensures { result ≡ is_gas_degree gas }
 {
     20 <= gas && gas <= 1200
-}
-
-// The curve of temperatures that have no fault.
-fn holding(temperatures: &[u32]) -> GasCurve
-    requires { is_some (gas_fault temperatures.now) ≡ false }
-    ensures { temperatures_of result ≡ temperatures.now }
-{
-    let mut curve = GasCurve::new();
-    curve.store[0..temperatures.len()].copy_from_slice(temperatures);
-    curve.count = temperatures.len();
-    curve
 }
 
 // The fourth power of the absolute temperature.
@@ -114,18 +100,14 @@ impl Fire for GasCurve {
 
     ghost tells = { λ c. gas_tells (temperatures_of c) };
 
-    ghost answers = { λ f.
-        gas_answers (temperatures_of f)
-        (λ k h. let l : k < f.count = omega (arith, length-take f.count f.store) in rw get_or-take (f.least k l, f.most k l)) };
+    ghost answers = { λ f. gas_answers (temperatures_of f) f.degrees };
 
     fn step_count(&self) -> usize {
-        self.count
+        self.temperatures.len()
     }
 
     fn reading_at(&self, step: usize, temperature: u32) -> Result<i32, NoFlux> {
-        if step >= self.count {
-            return Err(NoFlux::Ended);
-        }
-        Ok(net_flux(self.store[step], steel_degree(temperature)))
+        let gas = self.temperatures.get(step).ok_or(NoFlux::Ended)?;
+        Ok(net_flux(*gas, steel_degree(temperature)))
     }
 }
