@@ -1,10 +1,10 @@
 -- The walk that looks for a gas temperature outside its range, and what temperatures without fault are.
-use Rattle.std.proofs.Common.{refl, None, sym, ◌∙◌, ◌+◌, not, ◌≡◌, ℕ, zero, suc, ◌≤◌, false, List, [], ◌∷◌, length, is_some, le_of_suc-le-suc, arith}
+use Rattle.std.proofs.Common.{refl, None, sym, ◌∙◌, ◌+◌, not, ◌≡◌, ℕ, zero, suc, ◌≤◌, List, [], ◌∷◌, length, le_of_suc-le-suc, arith}
 use Rattle.std.proofs.lemmas.Iterator.Adapters.{position_from-zero}
 use Rattle.std.proofs.lemmas.Bool.Decides.{nat_tests}
 use Rattle.std.specs.List.{position, position_from}
 use Rattle.std.specs.Option.{option_map}
-use Rattle.fires.specs.GasDegrees.{is_gas_degree, GasDegree, GasDegrees}
+use Rattle.fires.specs.GasDegrees.{is_gas_degree, GasDegrees}
 use Rattle.fires.specs.Gas.{gas_fault, outside_from}
 
 -- where the first temperature outside stands, counted from i, says why a list is refused

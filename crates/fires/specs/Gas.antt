@@ -1,5 +1,5 @@
 -- A gas curve by its temperatures.
-use Rattle.std.specs.Prelude.{ℕ, suc, ◌+◌, ◌/◌, ◌^◌, ◌<◌, ◌≤◌, min, max, Bool, cond, ◌&&◌, List, [], ◌∷◌, length, take, ℤ, pos, ◌+ℤ◌, ◌-ℤ◌, ◌*ℤ◌, Some, None, Ok, Err, Option, nat_le, nat_lt, slice_index}
+use Rattle.std.specs.Prelude.{ℕ, suc, ◌+◌, ◌/◌, ◌^◌, min, max, cond, List, [], ◌∷◌, length, ℤ, pos, ◌+ℤ◌, ◌-ℤ◌, ◌*ℤ◌, Some, None, Ok, Err, Option, nat_le, nat_lt, slice_index}
 use Rattle.rounding.specs.Quotient.{rounded_up}
 use Rattle.fires.specs.GasDegrees.{is_gas_degree}
 use Rattle.fires.specs.Refusal.{Refused}

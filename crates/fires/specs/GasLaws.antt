@@ -1,12 +1,11 @@
 -- The answers of a gas curve keep the laws of a fire.
-use Rattle.std.specs.Prelude.{◌≡◌, ℕ, ◌+◌, ◌*◌, ◌^◌, ◌<◌, ◌≤◌, List, length, take, ℤ, pos, ◌+ℤ◌, ◌-ℤ◌, ◌*ℤ◌, Ok, Err, nat_lt, slice_index}
-use Rattle.std.proofs.Common.{sym, arith, of_z, to_z}
+use Rattle.std.specs.Prelude.{◌≡◌, ℕ, ◌+◌, ◌*◌, ◌^◌, ◌≤◌, List, length, ℤ, pos, ◌+ℤ◌, ◌-ℤ◌, ◌*ℤ◌, Ok, Err, nat_lt, slice_index}
+use Rattle.std.proofs.Common.{arith, of_z, to_z}
 use Rattle.std.proofs.Math.Nat.{pow-le-pow_left}
 use Rattle.std.specs.Int.{w32, w64}
 use Rattle.rounding.specs.Quotient.{rounded_up}
-use Rattle.std.proofs.lemmas.List.{get_or-take, length-take-le}
 use Rattle.std.proofs.lemmas.Int.{ints}
-use Rattle.std.proofs.lemmas.Bool.{cond_both, cond-false, cond-true, le-ltb, lt-ltb, ltb-true}
+use Rattle.std.proofs.lemmas.Bool.{cond_both, cond-false, le-ltb, ltb-true}
 use Rattle.std.proofs.lemmas.Bool.Decides.{nat_tests}
 use Rattle.fires.specs.GasDegrees.{GasDegree, GasDegrees}
 use Rattle.fires.specs.Gas.{gas_flux, gas_tells, steel_degree}
