@@ -1,10 +1,11 @@
 // A gas curve: handed in as whole gas temperatures, and asked as a fire (EN 1991-1-2, with emissivity 0.7 and 25 W/(m² K)).
-ghost use Rattle.std.specs.Prelude.{◌≡◌, ◌+◌, ◌^◌, ◌<◌, false, [], length, pos, ◌*ℤ◌, neg_ℤ, ◌≤ℤ◌, is_ok, IfOk, OnOk, not};
+ghost use Rattle.std.specs.Prelude.{◌≡◌, ◌+◌, ◌^◌, ◌<◌, false, [], length, pos, ◌*ℤ◌, is_ok, IfOk, OnOk, not};
 ghost use Rattle.std.specs.List.{position};
 ghost use Rattle.std.specs.Option.{option_map};
 ghost use Rattle.std.specs.Result.{result_err};
 ghost use Rattle.fires.specs.Gas.{gas_fault, gas_flux, gas_tells, steel_degree, temperatures_of};
 ghost use Rattle.fires.specs.GasDegrees.{GasDegree, is_gas_degree};
+ghost use Rattle.fires.specs.Meaning.{Within};
 ghost use Rattle.fires.specs.Refusal.{refused};
 ghost use Rattle.rounding.specs.Quotient.{rounded_up};
 ghost use Rattle.fires.specs.GasLaws.{gas_answers};
@@ -67,12 +68,12 @@ fn fourth_power(degree: u32) -> i64
     requires { GasDegree degree }
     ensures { result ≡ pos ((degree + 273) ^ 4) }
 {
-    ((degree + 273) as u64).pow(4) as i64
+    i64::from(degree + 273).pow(4)
 }
 
 // What a difference of fourth powers radiates, rounded up. None is above that of 1,200 degrees.
 fn radiation(powers: i64) -> i64
-    requires { (neg_ℤ (pos (1473 ^ 4)) ≤ℤ powers) × (powers ≤ℤ pos (1473 ^ 4)) }
+    requires { Within (1473 ^ 4) powers }
     ensures { result ≡ rounded_up (pos 3969 *ℤ powers) 100_000_000_000 }
 {
     rounding::rounded_up(3969 * powers, 100_000_000_000)
@@ -80,10 +81,11 @@ fn radiation(powers: i64) -> i64
 
 // Convection and radiation together.
 fn net_flux(gas: u32, steel: u32) -> i32
-    requires { (GasDegree gas) × (GasDegree steel) }
+    requires gas { GasDegree gas }
+    requires steel { GasDegree steel }
     ensures { result ≡ gas_flux gas steel }
 {
-    let convection = 25 * (gas as i64 - steel as i64);
+    let convection = 25 * (i64::from(gas) - i64::from(steel));
     let powers = fourth_power(gas) - fourth_power(steel);
     (convection + radiation(powers)) as i32
 }

@@ -50,7 +50,7 @@ impl<F: Fire> Fire for Shaded<F> {
 
     fn reading_at(&self, step: usize, temperature: u32) -> Result<i32, NoFlux> {
         let flux = self.below.reading_at(step, temperature)?;
-        let thousandths = self.shading.thousandths as i64;
-        Ok(rounding::rounded_up(flux as i64 * thousandths, 1000) as i32)
+        let part = i64::from(flux) * i64::from(self.shading.thousandths);
+        Ok(rounding::rounded_up(part, 1000) as i32)
     }
 }
