@@ -54,13 +54,9 @@ fn curve_of(given: &[u32]) -> Result<GasCurve, Refusal>
 fn first_outside(temperatures: &[u32]) -> Option<usize>
     ensures { result ≡ position (λ gas. not (is_gas_degree gas)) temperatures.now }
 {
-    temperatures.iter().position(|gas| !is_gas_degree(*gas))
-}
-
-fn is_gas_degree(gas: u32) -> bool
-    ensures { result ≡ is_gas_degree gas }
-{
-    20 <= gas && gas <= 1200
+    temperatures
+        .iter()
+        .position(|gas| !(20..=1200).contains(gas))
 }
 
 // The fourth power of the absolute temperature.
