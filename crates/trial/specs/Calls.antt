@@ -1,6 +1,6 @@
 -- What each call answers and does, in whatever state a sheet is.
 use Rattle.std.specs.Prelude.{ℕ, ◌+◌, ◌-◌, ◌/◌, cond, [], Some, None, Option, nat_le}
-use Rattle.fires.specs.declared.meaning.Reading.{Reading}
+use Rattle.fires.specs.Meaning.{Reading}
 use Rattle.trial.specs.Parts.{Parts}
 use Rattle.trial.specs.Refusal.{Refused}
 use Rattle.trial.specs.Questions.{temperature_at, hottest, first_failing}

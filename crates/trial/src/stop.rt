@@ -1,7 +1,9 @@
 // The causes that stop a step.
 ghost use Rattle.std.specs.Prelude.{◌≡◌};
+ghost use Rattle.trial.specs.Heating.{unheated};
 ghost use Rattle.trial.specs.Refusal.{stop_number};
 
+use fires::NoFlux;
 use thiserror::Error;
 
 // 4,096 steps stand, the fire has ended, it has no reading, or the step would end above 1,200 degrees.
@@ -22,5 +24,16 @@ impl Stop {
         ensures { result ≡ stop_number self.now }
     {
         *self as u32
+    }
+}
+
+impl From<NoFlux> for Stop {
+    ghost from_gives = { λ reason stop. stop ≡ unheated reason };
+
+    fn from(reason: NoFlux) -> Stop {
+        match reason {
+            NoFlux::Missing => Stop::NoReading,
+            NoFlux::Ended => Stop::FireEnded,
+        }
     }
 }

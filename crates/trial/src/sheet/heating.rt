@@ -11,7 +11,7 @@ ghost use Rattle.trial.specs.declared.call.Call.TheVariants.{Heat};
 
 use crate::sheet::Sheet;
 use crate::stop::Stop;
-use fires::{Fire, Reading};
+use fires::{Fire, NoFlux};
 use member_check::Member;
 use rounding::rounded_up;
 use steels::Steel;
@@ -56,7 +56,7 @@ fn risen(temperature: u32, rise: i64) -> u32
 
 impl<S: Steel, F: Fire> Sheet<S, F> {
     // What the fire tells of the next step, whose number is the count of steps that stand.
-    fn next_reading(&self) -> Reading
+    fn next_reading(&self) -> Result<i32, NoFlux>
         ensures { result ≡ next_reading (view_of S.Steel F.Fire self.now) }
     {
         let step = self.column.standing();
@@ -80,21 +80,13 @@ impl<S: Steel, F: Fire> Sheet<S, F> {
         if self.column.is_full() {
             return Err(Stop::SheetFull);
         }
-        match self.next_reading() {
-            Reading::Ended => Err(Stop::FireEnded),
-            Reading::Missing => Err(Stop::NoReading),
-            Reading::Flux(flux) => {
-                let end = risen(
-                    self.column.last(),
-                    rise(&self.member, self.capacity(), flux),
-                );
-                if end > LIMIT {
-                    Err(Stop::TooHot)
-                } else {
-                    Ok(end)
-                }
-            }
+        let flux = self.next_reading()?;
+        let rise = rise(&self.member, self.capacity(), flux);
+        let end = risen(self.column.last(), rise);
+        if end > LIMIT {
+            return Err(Stop::TooHot);
         }
+        Ok(end)
     }
 
     // Makes steps one by one until all that are asked for are made or one is stopped: how many were made, and what stopped the next.

@@ -11,7 +11,9 @@ module _ (c : goal.After-rounded_up) where
 
   -- the product is what is rounded up, and the result is what comes of it
   product : to_z w64 (of_z w64 (to_z w64 (of_z w64 c.from.result) *ℤ to_z w64 c.exposure.result)) ≡ c.args.flux *ℤ pos c.exposure.result
-  product = rw c.from.ensures (widened_product c.args.flux c.exposure.result c.requires.flux (omega (arith, few)))
+  product =
+      widened_product (to_z w64 (of_z w64 c.from.result)) (to_z w64 c.exposure.result) c.args.flux c.exposure.result
+      (omega (arith, ints, c.requires.flux)) (omega (arith, ints, few)) c.requires.flux (omega (arith, few))
 
   kept : to_z w64 (of_z w64 c.rounded_up.result) ≡ c.rounded_up.result
   kept = search rules
