@@ -1,4 +1,4 @@
--- The walk that looks for a gas temperature outside its range, and what temperatures without fault are.
+-- What the place of the first gas temperature outside its range says of a list.
 use Rattle.std.proofs.Common.{refl, None, sym, ◌∙◌, ◌+◌, not, ◌≡◌, ℕ, zero, suc, ◌≤◌, List, [], ◌∷◌, length, le_of_suc-le-suc, arith}
 use Rattle.std.proofs.lemmas.Iterator.Adapters.{position_from-zero}
 use Rattle.std.proofs.lemmas.Bool.Decides.{nat_tests}

@@ -1,11 +1,18 @@
 // The temperatures of a gas curve.
 pub mod curve;
 
-ghost use Rattle.fires.specs.GasDegrees.{GasDegrees};
+ghost use Rattle.fires.specs.GasDegrees.{GasDegree, GasDegrees};
 
 use arrayvec::ArrayVec;
 
 const MOST_STEPS: usize = 4096;
+
+// A whole degree from 20 to 1,200.
+#[derive(Clone, Copy)]
+struct Degree {
+    whole: u32,
+    ghost within: { GasDegree whole },
+}
 
 // A whole gas temperature for each step.
 #[derive(Drop)]

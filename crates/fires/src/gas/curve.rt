@@ -1,16 +1,16 @@
 // A gas curve: handed in as whole gas temperatures, and asked as a fire (EN 1991-1-2, with emissivity 0.7 and 25 W/(m² K)).
-ghost use Rattle.std.specs.Prelude.{◌≡◌, ◌+◌, ◌^◌, ◌<◌, false, [], length, pos, ◌*ℤ◌, is_ok, IfOk, OnOk, not};
+ghost use Rattle.std.specs.Prelude.{◌≡◌, ◌+◌, ◌^◌, false, [], length, pos, ◌*ℤ◌, is_ok, IfOk, OnOk, not};
 ghost use Rattle.std.specs.List.{position};
 ghost use Rattle.std.specs.Option.{option_map};
 ghost use Rattle.std.specs.Result.{result_err};
 ghost use Rattle.fires.specs.Gas.{gas_fault, gas_flux, gas_tells, steel_degree, temperatures_of};
-ghost use Rattle.fires.specs.GasDegrees.{GasDegree, is_gas_degree};
+ghost use Rattle.fires.specs.GasDegrees.{is_gas_degree};
 ghost use Rattle.fires.specs.Meaning.{Within};
 ghost use Rattle.fires.specs.Refusal.{refused};
 ghost use Rattle.rounding.specs.Quotient.{rounded_up};
 ghost use Rattle.fires.specs.GasLaws.{gas_answers};
 
-use crate::gas::{GasCurve, MOST_STEPS};
+use crate::gas::{Degree, GasCurve, MOST_STEPS};
 use crate::meaning::{Fire, NoFlux};
 use crate::refusal::Refusal;
 use arrayvec::ArrayVec;
@@ -59,12 +59,13 @@ fn first_outside(temperatures: &[u32]) -> Option<usize>
         .position(|gas| !(20..=1200).contains(gas))
 }
 
-// The fourth power of the absolute temperature.
-fn fourth_power(degree: u32) -> i64
-    requires { GasDegree degree }
-    ensures { result ≡ pos ((degree + 273) ^ 4) }
-{
-    i64::from(degree + 273).pow(4)
+impl Degree {
+    // The fourth power of the absolute temperature.
+    fn fourth_power(self) -> i64
+        ensures { result ≡ pos ((self.whole + 273) ^ 4) }
+    {
+        i64::from(self.whole + 273).pow(4)
+    }
 }
 
 // What a difference of fourth powers radiates, rounded up. None is above that of 1,200 degrees.
@@ -76,21 +77,21 @@ fn radiation(powers: i64) -> i64
 }
 
 // Convection and radiation together.
-fn net_flux(gas: u32, steel: u32) -> i32
-    requires gas { GasDegree gas }
-    requires steel { GasDegree steel }
-    ensures { result ≡ gas_flux gas steel }
+fn net_flux(gas: Degree, steel: Degree) -> i32
+    ensures { result ≡ gas_flux gas.whole steel.whole }
 {
-    let convection = 25 * (i64::from(gas) - i64::from(steel));
-    let powers = fourth_power(gas) - fourth_power(steel);
+    let convection = 25 * (i64::from(gas.whole) - i64::from(steel.whole));
+    let powers = gas.fourth_power() - steel.fourth_power();
     (convection + radiation(powers)) as i32
 }
 
 // The steel's whole degree, rounded down.
-fn steel_degree(temperature: u32) -> u32
-    ensures { result ≡ steel_degree temperature }
+fn steel_degree(temperature: u32) -> Degree
+    ensures { result.whole ≡ steel_degree temperature }
 {
-    temperature.clamp(20_000, 1_200_000) / 1000
+    Degree {
+        whole: temperature.clamp(20_000, 1_200_000) / 1000,
+    }
 }
 
 impl Fire for GasCurve {
@@ -106,6 +107,6 @@ impl Fire for GasCurve {
 
     fn reading_at(&self, step: usize, temperature: u32) -> Result<i32, NoFlux> {
         let gas = self.temperatures.get(step).ok_or(NoFlux::Ended)?;
-        Ok(net_flux(*gas, steel_degree(temperature)))
+        Ok(net_flux(Degree { whole: *gas }, steel_degree(temperature)))
     }
 }

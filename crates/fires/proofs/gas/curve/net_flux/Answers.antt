@@ -12,18 +12,18 @@ powers_apart a b m n p q h k = omega (arith, ints)
 
 pub radiation-requires : goal.radiation-requires
 radiation-requires c =
-    omega (arith, ints, fourth_most c.args.gas c.requires.gas.1, fourth_most c.args.steel c.requires.steel.1)
+    omega (arith, ints, fourth_most c.args.gas.whole c.args.gas.within.1, fourth_most c.args.steel.whole c.args.steel.within.1)
 
 module _ (c : goal.After-radiation) where
-  radiated : c.radiation.result ≡ rounded_up (pos 3969 *ℤ (pos ((c.args.gas + 273) ^ 4) -ℤ pos ((c.args.steel + 273) ^ 4))) 100_000_000_000
+  radiated : c.radiation.result ≡ rounded_up (pos 3969 *ℤ (pos ((c.args.gas.whole + 273) ^ 4) -ℤ pos ((c.args.steel.whole + 273) ^ 4))) 100_000_000_000
   radiated =
       c.radiation.ensures
       ∙ ap (λ (z : ℤ). rounded_up (pos 3969 *ℤ z) 100_000_000_000)
       (powers_apart _ _ _ _ c.fourth_power.ensures c.fourth_power-2.ensures
-      (fourth_most c.args.gas c.requires.gas.1) (fourth_most c.args.steel c.requires.steel.1))
+      (fourth_most c.args.gas.whole c.args.gas.within.1) (fourth_most c.args.steel.whole c.args.steel.within.1))
 
   within : Within 200000 c.radiation.result
-  within = rw radiated (radiation_within c.args.gas c.args.steel c.requires.gas c.requires.steel)
+  within = rw radiated (radiation_within c.args.gas.whole c.args.steel.whole c.args.gas.within c.args.steel.within)
 
 pub overflow_add-result : goal.overflow_add-result
 overflow_add-result c = omega (arith, ints, within c)
