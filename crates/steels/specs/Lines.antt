@@ -4,7 +4,7 @@ use Rattle.std.proofs.Common.{sym, ap, ◌∙◌, mul-le-mul_right, arith}
 use Rattle.std.proofs.lemmas.List.{at_drop_more, take_rest}
 use Rattle.std.proofs.lemmas.Bool.{cond-false, cond-true, le-ltb, lt-ltb}
 use Rattle.std.proofs.lemmas.Nat.{div_below}
-use Rattle.steels.specs.declared.table.Column.{Column}
+use Rattle.steels.specs.declared.table.Reduction.{Reduction}
 use Rattle.steels.specs.declared.table.Row.{Row}
 use Rattle.steels.specs.Table.{between, clamped, line, tabled}
 
@@ -24,7 +24,7 @@ mean_narrow u v a b hu hv h =
     div_below (u * a + v * b) (a + b) (2 ^ 32) h (omega (arith, mean_most u v a b (2 ^ 32 - 1) (omega arith) (omega arith)))
 
 -- a walk along a table whose entries x hold a row: from row p at entry i it stops before row q of that entry, or goes on from it
-module _ {X : Type 0} (row : X → Row) (c : Column) (p : Row) (xs : List X) (i : ℕ) (x : X) (q : Row) (d : ℕ) (within : i < length xs) (read : x ≡ slice_index_or xs i x) (is : q ≡ row x) where
+module _ {X : Type 0} (row : X → Row) (c : Reduction) (p : Row) (xs : List X) (i : ℕ) (x : X) (q : Row) (d : ℕ) (within : i < length xs) (read : x ≡ slice_index_or xs i x) (is : q ≡ row x) where
   next : line c p (map row (drop i xs)) d ≡ cond (nat_lt d q.degree) (between c p q d) (line c q (map row (drop (i + 1) xs)) d)
   next =
       at_drop_more (λ ys. line c p (map row ys) d) xs i x within
@@ -37,7 +37,7 @@ module _ {X : Type 0} (row : X → Row) (c : Column) (p : Row) (xs : List X) (i 
   goes over = sym (next ∙ cond-false _ _ _ (le-ltb d q.degree over))
 
 -- the start of that walk
-module _ {X : Type 0} (row : X → Row) (c : Column) (d : ℕ) where
+module _ {X : Type 0} (row : X → Row) (c : Reduction) (d : ℕ) where
   pub no_table : (xs : List X) → length xs < 1 → 0 ≡ tabled c (map row xs) d
   no_table [] short = refl
   no_table (x ∷ xs) short = omega arith

@@ -5,7 +5,7 @@ use Rattle.std.proofs.lemmas.List.{at_drop_more, take_rest, map-append}
 use Rattle.std.proofs.lemmas.Bool.{and_parts, cond_both, cond-false, cond-true, eq-eqb, eqb-true, false≢true, le-ltb, leb-true, lt-ltb, ltb-true, ne_eqb, true≢false}
 use Rattle.std.specs.List.{AllByRecursion}
 use Rattle.steels.specs.declared.point.Point.{Point}
-use Rattle.steels.specs.declared.table.Column.{Column}
+use Rattle.steels.specs.declared.table.Reduction.{Reduction}
 use Rattle.steels.specs.Meaning.{Capacity, Factor}
 use Rattle.steels.specs.Mill.{Follows, LastNotAbove, capacity_from, degree_fits, falls, in_range, is_last, point_fault, rises, row_of, sheet_capacity, sheet_factor, sheet_fault}
 use Rattle.steels.specs.Table.{Behind, Sound, clamped}
@@ -124,7 +124,7 @@ sheet_capacity_law (p ∷ points) clean =
       };
     }
 
-pub sheet_factor_law : (c : Column) (points : List Point) → is_some (sheet_fault points) ≡ false → Factor (sheet_factor c points)
+pub sheet_factor_law : (c : Reduction) (points : List Point) → is_some (sheet_fault points) ≡ false → Factor (sheet_factor c points)
 sheet_factor_law c points clean = factor_law c (map row_of points) (sheet_sound points clean).0
 
 -- p is the last point that is not above d

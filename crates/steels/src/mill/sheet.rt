@@ -6,14 +6,13 @@ ghost use Rattle.steels.specs.Mill.{Follows, capacity_from, degree_fits, falls, 
 ghost use Rattle.steels.specs.Refusal.{refused};
 ghost use Rattle.steels.specs.MillStore.{points_of};
 ghost use Rattle.steels.specs.Table.{Sound};
-ghost use Rattle.steels.specs.declared.table.Column.TheVariants.{Stiffness, Strength};
 ghost use Rattle.steels.specs.Points.{sheet_factor_law, sheet_capacity_law};
 
 use crate::meaning::Steel;
 use crate::mill::MillSheet;
 use crate::point::Point;
 use crate::refusal::Refusal;
-use crate::table::{Column, clamp, factor_at};
+use crate::table::{Reduction, clamp, factor_at};
 
 impl Point {
     // Of such points a sheet is made before any are read.
@@ -155,24 +154,16 @@ fn last_capacity(first: u32, rest: &[Point], degree: u32) -> u32
 }
 
 impl Steel for MillSheet {
-    ghost strength = { λ s. sheet_factor Strength (points_of s) };
-
-    ghost stiffness = { λ s. sheet_factor Stiffness (points_of s) };
+    ghost factor = { λ s r. sheet_factor r (points_of s) };
 
     ghost capacity = { λ s. sheet_capacity (points_of s) };
 
-    ghost strength_law = { λ s. sheet_factor_law Strength (points_of s) s.sound };
-
-    ghost stiffness_law = { λ s. sheet_factor_law Stiffness (points_of s) s.sound };
+    ghost factor_law = { λ s r. sheet_factor_law r (points_of s) s.sound };
 
     ghost capacity_law = { λ s. sheet_capacity_law (points_of s) s.sound };
 
-    fn strength_at(&self, degree: u32) -> u32 {
-        factor_at(Column::Strength, self.in_hand(), degree)
-    }
-
-    fn stiffness_at(&self, degree: u32) -> u32 {
-        factor_at(Column::Stiffness, self.in_hand(), degree)
+    fn factor_at(&self, reduction: Reduction, degree: u32) -> u32 {
+        factor_at(reduction, self.in_hand(), degree)
     }
 
     fn capacity_at(&self, degree: u32) -> u32 {
