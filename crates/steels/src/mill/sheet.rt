@@ -57,31 +57,31 @@ impl Point {
     }
 }
 
-// Why the points are refused, if they are: their number comes first.
-fn fault(points: &[Point]) -> Option<Refusal>
-    ensures { option_map refused result ≡ sheet_fault points.now }
+// Tries the points: their number comes first.
+fn try_points(points: &[Point]) -> Result<(), Refusal>
+    ensures { option_map refused (result_err result) ≡ sheet_fault points.now }
 {
-    if points.len() < 2 || points.len() > 64 {
-        return Some(Refusal::PointCount);
+    if !(2..=64).contains(&points.len()) {
+        return Err(Refusal::PointCount);
     }
-    point_fault(points)
+    try_each_point(points)
 }
 
 // The first point at fault decides, and at it the smaller number.
-fn point_fault(points: &[Point]) -> Option<Refusal>
-    ensures { option_map refused result ≡ point_fault 0 None points.now }
+fn try_each_point(points: &[Point]) -> Result<(), Refusal>
+    ensures { option_map refused (result_err result) ≡ point_fault 0 None points.now }
 {
     let mut before = None;
     for (i, point) in points.iter().enumerate() {
         if !point.degree_fits(before, i + 1 == points.len()) {
-            return Some(Refusal::PointDegree { point: i });
+            return Err(Refusal::PointDegree { point: i });
         }
         if !point.figures_fit(before) {
-            return Some(Refusal::PointFigure { point: i });
+            return Err(Refusal::PointFigure { point: i });
         }
         before = Some(*point);
     }
-    None
+    Ok(())
 }
 
 // The store that holds the points; they are without fault.
@@ -122,9 +122,7 @@ impl MillSheet {
         ensures meaning { OnOk result (Follows points.now) }
         ensures kept { is_ok result ≡ false → self.new ≡ self.old }
     {
-        if let Some(refusal) = fault(points) {
-            return Err(refusal);
-        }
+        try_points(points)?;
         *self = holding(points);
         Ok(())
     }

@@ -2,7 +2,7 @@ use Rattle.std.proofs.Common.{sym, ◌∙◌, arith}
 use Rattle.std.proofs.lemmas.List.{at_drop_all}
 use Rattle.steels.specs.Mill.{point_fault}
 use Rattle.steels.specs.Points.{goes_on, stops_at_degree, stops_at_figure}
-use Rattle.steels.proofs.mill.sheet.point_fault.Goals as goal
+use Rattle.steels.proofs.mill.sheet.try_each_point.Goals as goal
 
 pub returns-then-not-degree_fits : goal.returns-then-not-degree_fits
 returns-then-not-degree_fits c =
