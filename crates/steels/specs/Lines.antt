@@ -1,9 +1,8 @@
 -- Weighted means, and the broken line through the rows of a table.
-use Rattle.std.specs.Prelude.{◌≡◌, ℕ, ◌+◌, ◌-◌, ◌*◌, ◌/◌, ◌^◌, ◌<◌, ◌≤◌, cond, List, [], ◌∷◌, map, length, take, drop, nat_lt, slice_index_or, refl}
+use Rattle.std.specs.Prelude.{◌≡◌, ℕ, ◌+◌, ◌-◌, ◌*◌, ◌<◌, ◌≤◌, cond, List, [], ◌∷◌, map, length, take, drop, nat_lt, slice_index_or, refl}
 use Rattle.std.proofs.Common.{sym, ap, ◌∙◌, mul-le-mul_right, arith}
 use Rattle.std.proofs.lemmas.List.{at_drop_more, take_rest}
 use Rattle.std.proofs.lemmas.Bool.{cond-false, cond-true, le-ltb, lt-ltb}
-use Rattle.std.proofs.lemmas.Nat.{div_below}
 use Rattle.steels.specs.declared.table.Reduction.{Reduction}
 use Rattle.steels.specs.declared.table.Row.{Row}
 use Rattle.steels.specs.Table.{between, clamped, line, tabled}
@@ -14,14 +13,6 @@ mean_most u v a b most hu hv = omega (arith, mul-le-mul_right a hu, mul-le-mul_r
 
 pub mean_least : (u v a b low : ℕ) → low ≤ u → low ≤ v → low * (a + b) ≤ u * a + v * b
 mean_least u v a b low hu hv = omega (arith, mul-le-mul_right a hu, mul-le-mul_right b hv)
-
--- the mean of two 32-bit values, as the code reckons it in 64 bits
-pub mean_fits : (u v a b : ℕ) → u < 2 ^ 32 → v < 2 ^ 32 → a + b < 2 ^ 32 → u * a + v * b < 2 ^ 64
-mean_fits u v a b hu hv h = omega (arith, mean_most u v a b (2 ^ 32 - 1) (omega arith) (omega arith))
-
-pub mean_narrow : (u v a b : ℕ) → u < 2 ^ 32 → v < 2 ^ 32 → 0 < a + b → (u * a + v * b) / (a + b) < 2 ^ 32
-mean_narrow u v a b hu hv h =
-    div_below (u * a + v * b) (a + b) (2 ^ 32) h (omega (arith, mean_most u v a b (2 ^ 32 - 1) (omega arith) (omega arith)))
 
 -- a walk along a table whose entries x hold a row: from row p at entry i it stops before row q of that entry, or goes on from it
 module _ {X : Type 0} (row : X → Row) (c : Reduction) (p : Row) (xs : List X) (i : ℕ) (x : X) (q : Row) (d : ℕ) (within : i < length xs) (read : x ≡ slice_index_or xs i x) (is : q ≡ row x) where

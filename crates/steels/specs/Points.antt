@@ -101,9 +101,6 @@ sheet_sound (p ∷ points) clean =
     let top = ranges 0 None p points inside in
     ((eqb-true p.degree 20 (first_part 0 None p points inside), top.0.0, top.0.1, tail.0), (top.1, tail.1))
 
-pub few_points : (points : List Point) → is_some (sheet_fault points) ≡ false → length points ≤ 64
-few_points points clean = leb-true _ _ (and_parts (nat_le 2 (length points)) _ (no_fault (nat_le 2 (length points) && nat_le (length points) 64) (point_fault 0 None points) (5, []) clean).0).1
-
 -- ---- the heat capacity of a sheet
 
 warm_from : (c : ℕ) (points : List Point) (d : ℕ) → Warm c → AllByRecursion (λ p. Warm p.capacity) points → Warm (capacity_from c points d)

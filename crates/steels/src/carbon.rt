@@ -120,7 +120,7 @@ fn cubic_capacity(degree: u32) -> u32
     requires { degree ≤ 600 }
     ensures { result ≡ cubic degree }
 {
-    let d = degree as u64;
+    let d = u64::from(degree);
     let parts = 42_500_000_000 + 77_300_000 * d + 222 * (d * d * d) - 169_000 * (d * d);
     (parts / 100_000_000) as u32
 }

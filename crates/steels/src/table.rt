@@ -1,5 +1,5 @@
 // Tables of reduction factors, read by linear interpolation rounded down.
-ghost use Rattle.std.specs.Prelude.{◌≡◌, ◌/◌, ◌<◌, ◌≤◌, map};
+ghost use Rattle.std.specs.Prelude.{◌≡◌, ◌<◌, ◌≤◌, map};
 ghost use Rattle.steels.specs.Table.{Sound, between, cell, clamped, line, tabled};
 ghost use Rattle.steels.specs.declared.table.Row.{Row};
 
@@ -50,16 +50,9 @@ fn interpolated(reduction: Reduction, from: Row, to: Row, degree: u32) -> u32
     requires { (from.degree ≤ degree) × (degree < to.degree) }
     ensures { result ≡ between reduction from to degree }
 {
-    let cold = from.cell(reduction) as u64 * (to.degree - degree) as u64;
-    let hot = to.cell(reduction) as u64 * (degree - from.degree) as u64;
-    whole_part(cold + hot, (to.degree - from.degree) as u64) as u32
-}
-
-fn whole_part(parts: u64, weight: u64) -> u64
-    requires { 0 < weight }
-    ensures { result ≡ parts / weight }
-{
-    parts / weight
+    let cold = u64::from(from.cell(reduction)) * u64::from(to.degree - degree);
+    let hot = u64::from(to.cell(reduction)) * u64::from(degree - from.degree);
+    ((cold + hot) / u64::from(to.degree - from.degree)) as u32
 }
 
 // The broken line from the first row on.

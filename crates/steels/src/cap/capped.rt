@@ -16,10 +16,10 @@ impl Cap {
         ensures fault { option_map refused (result_err result) ≡ cap_fault degree }
         ensures taken { IfOk result (λ cap. cap_degree cap ≡ degree) }
     {
-        if degree < 21 || degree > 1200 {
-            return Err(Refusal::CapDegree);
+        match degree {
+            21..=1200 => Ok(Cap { degree }),
+            _ => Err(Refusal::CapDegree),
         }
-        Ok(Cap { degree })
     }
 }
 

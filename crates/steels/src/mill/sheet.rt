@@ -1,5 +1,5 @@
 // Mill sheets: points handed in are tried first and taken whole, or refused and nothing is changed.
-ghost use Rattle.std.specs.Prelude.{◌≡◌, ◌≤◌, false, ◌&&◌, map, length, take, is_some, is_ok, None, OnOk};
+ghost use Rattle.std.specs.Prelude.{◌≡◌, false, ◌&&◌, map, is_some, is_ok, OnOk};
 ghost use Rattle.std.specs.Option.{option_map};
 ghost use Rattle.std.specs.Result.{result_err};
 ghost use Rattle.steels.specs.Mill.{Follows, capacity_from, degree_fits, falls, first_points, full_point, in_range, point_fault, row_of, sheet_capacity, sheet_factor, sheet_fault};
@@ -13,10 +13,11 @@ use crate::mill::MillSheet;
 use crate::point::Point;
 use crate::refusal::Refusal;
 use crate::table::{Reduction, clamp, factor_at};
+use arrayvec::ArrayVec;
 
 impl Point {
     // Of such points a sheet is made before any are read.
-    const fn full(degree: u32) -> Point
+    fn full(degree: u32) -> Point
         ensures { result ≡ full_point degree }
     {
         Point {
@@ -30,10 +31,7 @@ impl Point {
     fn degree_fits(&self, before: Option<Point>, last: bool) -> bool
         ensures { result ≡ degree_fits before self.now last }
     {
-        let rises = match before {
-            None => self.degree == 20,
-            Some(point) => point.degree < self.degree,
-        };
+        let rises = before.map_or(self.degree == 20, |point| point.degree < self.degree);
         rises && (!last || self.degree == 1200)
     }
 
@@ -42,18 +40,16 @@ impl Point {
     {
         let in_range = self.strength <= 10_000
             && self.stiffness <= 10_000
-            && self.capacity >= 300
-            && self.capacity <= 6000;
+            && (300..=6000).contains(&self.capacity);
         in_range && self.falls_from(before)
     }
 
     fn falls_from(&self, before: Option<Point>) -> bool
         ensures { result ≡ falls before self.now }
     {
-        match before {
-            None => true,
-            Some(point) => self.strength <= point.strength && self.stiffness <= point.stiffness,
-        }
+        before.is_none_or(|point| {
+            self.strength <= point.strength && self.stiffness <= point.stiffness
+        })
     }
 }
 
@@ -84,26 +80,15 @@ fn try_each_point(points: &[Point]) -> Result<(), Refusal>
     Ok(())
 }
 
-// The store that holds the points; they are without fault.
+// The sheet that holds the points; they are without fault.
 fn holding(points: &[Point]) -> MillSheet
     requires { is_some (sheet_fault points.now) ≡ false }
     ensures held { points_of result ≡ points.now }
     ensures meaning { Follows points.now }
 {
     MillSheet {
-        points: stored(points),
-        count: points.len(),
+        points: ArrayVec::try_from(points).unwrap(),
     }
-}
-
-// An array that begins with the points; what follows them is free.
-fn stored(points: &[Point]) -> [Point; 64]
-    requires { length points.now ≤ 64 }
-    ensures { take (length points.now) result ≡ points.now }
-{
-    let mut store = [Point::full(20); 64];
-    store[0..points.len()].copy_from_slice(points);
-    store
 }
 
 impl MillSheet {
@@ -175,6 +160,6 @@ impl MillSheet {
         ensures points { result.now ≡ points_of self.now }
         ensures sound { Sound (map row_of result.now) }
     {
-        &self.points[0..self.count]
+        &self.points
     }
 }
