@@ -81,6 +81,7 @@ const ROWS: [Row; 13] = [
 pub struct Carbon;
 
 impl Carbon {
+    #[tactic(auto, using(crate::specs::CarbonRules::carbon_linear))]
     pub fn new() -> Carbon
         ensures { (r : Reduction) → Linear r carbon_rows (carbon_factor r) }
     {

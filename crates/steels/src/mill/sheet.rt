@@ -81,6 +81,7 @@ fn try_each_point(points: &[Point]) -> Result<(), Refusal>
 }
 
 // The sheet that holds the points; they are without fault.
+#[tactic(auto, using(crate::specs::Points::follows))]
 fn holding(points: &[Point]) -> MillSheet
     requires { is_some (sheet_fault points.now) ≡ false }
     ensures held { points_of result ≡ points.now }
@@ -156,6 +157,7 @@ impl Steel for MillSheet {
 
 impl MillSheet {
     // Points without fault make a sound table.
+    #[tactic(auto, using(crate::specs::Points::sheet_sound))]
     fn in_hand(&self) -> &[Point]
         ensures points { result.now ≡ points_of self.now }
         ensures sound { Sound (map row_of result.now) }
