@@ -30,6 +30,7 @@ impl Row {
 }
 
 // An entry of a table: a row, alone or with more beside it.
+// Not std's `From<P> for Row`: that says which rows are right, and the contracts name the one list `map row`.
 pub trait Tabled {
     ghost row: { Self → Row };
 
