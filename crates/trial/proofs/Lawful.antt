@@ -3,6 +3,8 @@ use Rattle.std.proofs.Common.{◌≡◌, ℕ, zero, suc, ◌*◌, ◌<◌, ◌�
 use Rattle.std.proofs.lemmas.Bool.{cases_lt, both_ways, ltb-false, le-ltb}
 use Rattle.steels.specs.Meaning.{Factor}
 use Rattle.steels.specs.declared.meaning.Steel as steel
+use Rattle.steels.specs.declared.table.Reduction.{Reduction}
+use Rattle.steels.specs.declared.table.Reduction.TheVariants.{Stiffness, Strength}
 use Rattle.fires.specs.declared.meaning.Fire as fire
 use Rattle.trial.specs.Parts.{Parts}
 use Rattle.trial.specs.Questions.{fails, hottest}
@@ -110,11 +112,11 @@ law_holds p calls v fy fz h = record {
 }
 
 -- so for sheets over any steel and fire
-module _ {S F : Type 0} (s : steel.Ghosts S) (f : fire.Ghosts F) (strength : (x : S) → Factor (s.strength x)) (stiffness : (x : S) → Factor (s.stiffness x)) where
+module _ {S F : Type 0} (s : steel.Ghosts S) (f : fire.Ghosts F) (factors : (x : S) (r : Reduction) → Factor (s.factor x r)) where
   pub law_starts : (p : Parts) (sheet : Sheet S F) → Same (new_view p) (view_of s f sheet) → Law p [] (view_of s f sheet)
   law_starts p sheet new =
       let v = view_of s f sheet in
-      law_holds p [] v (strength sheet.steel) (stiffness sheet.steel)
+      law_holds p [] v (factors sheet.steel Strength) (factors sheet.steel Stiffness)
       (subst (λ q. Follows q [] v) new.parts (starts v new.standing new.load (new.temperature 0 (omega arith))))
 
   pub lawful : (old new : Sheet S F) (c : Call) (r : Answer) → Answered (view_of s f old) c r (view_of s f new) → Lawful (view_of s f old) c r (view_of s f new)
@@ -123,5 +125,5 @@ module _ {S F : Type 0} (s : steel.Ghosts S) (f : fire.Ghosts F) (strength : (x 
       let w = view_of s f new in
       let on = goes_on calls v w c (own p calls v h) done.after in (
         done.answer ∙ (on.0 ∙ ap (λ q. answer q (tally q calls) c) h.parts),
-        law_holds p _ w (strength new.steel) (stiffness new.steel) (subst (λ q. Follows q (calls ++ (c ∷ [])) w) h.parts on.1),
+        law_holds p _ w (factors new.steel Strength) (factors new.steel Stiffness) (subst (λ q. Follows q (calls ++ (c ∷ [])) w) h.parts on.1),
       )

@@ -8,5 +8,5 @@ returns-clause-law g c =
     let old = c.args.self.now in
     let new = c.take_back.new.self in
     let done = c.take_back.ensures in
-    lawful g.S.Steel g.F.Fire g.met.S.Steel.strength_law g.met.S.Steel.stiffness_law old new (Back c.args.steps) _
+    lawful g.S.Steel g.F.Fire g.met.S.Steel.factor_law old new (Back c.args.steps) _
     (back_settled g.S.Steel g.F.Fire old new c.take_back.result c.args.steps done.fault done.taken done.kept)

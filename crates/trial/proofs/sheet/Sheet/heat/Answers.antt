@@ -5,5 +5,5 @@ use Rattle.trial.proofs.sheet.Sheet.heat.Goals as goal
 
 pub returns-clause-law : goal.returns-clause-law
 returns-clause-law g c =
-    lawful g.S.Steel g.F.Fire g.met.S.Steel.strength_law g.met.S.Steel.stiffness_law c.args.self.now c.heated.new.self (Heat c.args.asked) _
+    lawful g.S.Steel g.F.Fire g.met.S.Steel.factor_law c.args.self.now c.heated.new.self (Heat c.args.asked) _
     (record { answer = refl; after = c.heated.ensures.after })

@@ -8,5 +8,5 @@ returns-clause-law g c =
     let old = c.args.self.now in
     let new = c.replace_load.new.self in
     let done = c.replace_load.ensures in
-    lawful g.S.Steel g.F.Fire g.met.S.Steel.strength_law g.met.S.Steel.stiffness_law old new (Load c.args.load) _
+    lawful g.S.Steel g.F.Fire g.met.S.Steel.factor_law old new (Load c.args.load) _
     (load_settled g.S.Steel g.F.Fire old new c.replace_load.result c.args.load done.fault done.taken done.kept)
