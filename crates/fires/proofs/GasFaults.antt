@@ -1,33 +1,26 @@
--- The walk that looks for a gas temperature outside its range, and what temperatures without fault are.
-use Rattle.std.proofs.Common.{◌≡◌, ℕ, zero, suc, ◌+◌, ◌<◌, ◌≤◌, true, false, cond, ◌&&◌, leb, List, [], ◌∷◌, length, get_or, drop, is_some, Some, sym, ap, ◌∙◌, le_of_suc-le-suc, add-one, arith}
-use Rattle.std.proofs.lemmas.List.{at_drop_more}
-use Rattle.std.proofs.lemmas.Bool.{cond-false, cond-true}
+-- What the place of the first gas temperature outside its range says of a list.
+use Rattle.std.proofs.Common.{refl, None, sym, ◌∙◌, ◌+◌, not, ◌≡◌, ℕ, zero, suc, ◌≤◌, List, [], ◌∷◌, length, le_of_suc-le-suc, arith}
+use Rattle.std.proofs.lemmas.Iterator.Adapters.{position_from-zero}
 use Rattle.std.proofs.lemmas.Bool.Decides.{nat_tests}
-use Rattle.fires.specs.Gas.{GasDegree, GasDegrees, gas_fault, outside_from}
+use Rattle.std.specs.List.{position, position_from}
+use Rattle.std.specs.Option.{option_map}
+use Rattle.fires.specs.GasDegrees.{is_gas_degree, GasDegrees}
+use Rattle.fires.specs.Gas.{gas_fault, outside_from}
 
--- at step i
-module _ (gs : List ℕ) (i : ℕ) (within : i < length gs) where
-  next : outside_from i (drop i gs) ≡ cond (leb 20 (get_or gs i 0) && leb (get_or gs i 0) 1200) (outside_from (i + 1) (drop (i + 1) gs)) (Some (9, i ∷ []))
-  next =
-      at_drop_more (outside_from i) gs i 0 within
-      ∙ ap (λ k. cond (leb 20 (get_or gs i 0) && leb (get_or gs i 0) 1200) (outside_from k (drop (i + 1) gs)) (Some (9, i ∷ []))) (sym (add-one i))
+-- where the first temperature outside stands, counted from i, says why a list is refused
+outside_at : (i : ℕ) (gs : List ℕ) → option_map (λ k. (9, k ∷ [])) (position_from (λ g. not (is_gas_degree g)) i gs) ≡ outside_from i gs
+outside_at i [] = refl
+outside_at i (g ∷ gs) = let next = outside_at (suc i) gs in grind (arith, nat_tests)
 
-  pub stops : (leb 20 (get_or gs i 0) && leb (get_or gs i 0) 1200) ≡ false → Some (9, i ∷ []) ≡ outside_from i (drop i gs)
-  stops outside = sym (next ∙ cond-false _ _ _ outside)
+-- the same of a list that is not too long, from its first temperature on
+pub fault_at : (gs : List ℕ) → length gs ≤ 4096 → option_map (λ k. (9, k ∷ [])) (position (λ g. not (is_gas_degree g)) gs) ≡ gas_fault gs
+fault_at gs short = let e = outside_at 0 gs in let p = position_from-zero (λ g. not (is_gas_degree g)) gs in grind (arith, nat_tests)
 
-  pub goes : (leb 20 (get_or gs i 0) && leb (get_or gs i 0) 1200) ≡ true → outside_from (i + 1) (drop (i + 1) gs) ≡ outside_from i (drop i gs)
-  goes inside = sym (next ∙ cond-true _ _ _ inside)
+-- where there is none, every temperature lies inside
+inside_from : (i : ℕ) (gs : List ℕ) → position_from (λ g. not (is_gas_degree g)) i gs ≡ None → GasDegrees gs
+inside_from i [] none k h = omega arith
+inside_from i (g ∷ gs) none zero h = grind (arith, nat_tests)
+inside_from i (g ∷ gs) none (suc k) h = inside_from (i + 1) gs (grind (arith, nat_tests)) k (le_of_suc-le-suc h)
 
-first_inside : (i g : ℕ) (gs : List ℕ) → is_some (outside_from i (g ∷ gs)) ≡ false → GasDegree g × (is_some (outside_from (suc i) gs) ≡ false)
-first_inside i g gs clean = grind (arith, nat_tests)
-
-degrees : (i : ℕ) (gs : List ℕ) → is_some (outside_from i gs) ≡ false → GasDegrees gs
-degrees i [] clean k h = omega arith
-degrees i (g ∷ gs) clean zero h = (first_inside i g gs clean).0
-degrees i (g ∷ gs) clean (suc k) h = degrees (suc i) gs (first_inside i g gs clean).1 k (le_of_suc-le-suc h)
-
-pub without_fault : (gs : List ℕ) → is_some (gas_fault gs) ≡ false → (length gs ≤ 4096) × (is_some (outside_from 0 gs) ≡ false)
-without_fault gs clean = grind (arith, nat_tests)
-
-pub gas_degrees : (gs : List ℕ) → is_some (gas_fault gs) ≡ false → GasDegrees gs
-gas_degrees gs clean = degrees 0 gs (without_fault gs clean).1
+pub inside : (gs : List ℕ) → position (λ g. not (is_gas_degree g)) gs ≡ None → GasDegrees gs
+inside gs none = inside_from 0 gs (sym (position_from-zero (λ g. not (is_gas_degree g)) gs) ∙ none)

@@ -1,3 +1,1 @@
-pub mod Copied
 pub mod GasFaults
-pub mod GaugeMore

@@ -1,14 +1,15 @@
 -- A gas curve by its temperatures.
-use Rattle.std.specs.Prelude.{ℕ, suc, ◌+◌, ◌/◌, ◌^◌, ◌<◌, ◌≤◌, min, max, cond, ◌&&◌, List, [], ◌∷◌, length, take, ℤ, pos, ◌+ℤ◌, ◌-ℤ◌, ◌*ℤ◌, Some, None, Option, nat_le, nat_lt, slice_index}
+use Rattle.std.specs.Prelude.{ℕ, suc, ◌+◌, ◌/◌, ◌^◌, min, max, cond, List, [], ◌∷◌, length, ℤ, pos, ◌+ℤ◌, ◌-ℤ◌, ◌*ℤ◌, Some, None, Ok, Err, Option, nat_le, nat_lt, slice_index}
 use Rattle.rounding.specs.Quotient.{rounded_up}
+use Rattle.fires.specs.GasDegrees.{is_gas_degree}
 use Rattle.fires.specs.Refusal.{Refused}
 use Rattle.fires.specs.declared.gas.GasCurve.{GasCurve}
-use Rattle.fires.specs.declared.meaning.Reading.{Reading}
-use Rattle.fires.specs.declared.meaning.Reading.TheVariants.{Flux, Ended}
+use Rattle.fires.specs.Meaning.{Reading}
+use Rattle.fires.specs.declared.meaning.NoFlux.TheVariants.{Ended}
 
 -- the gas temperatures of a curve, in whole degrees
 abbrev pub temperatures_of : GasCurve → List ℕ
-temperatures_of c = take c.count c.store
+temperatures_of c = c.temperatures.items
 
 -- the steel's whole degree, rounded down, at a temperature in millidegrees; outside 20,000 to 1,200,000 that of the nearer end
 abbrev pub steel_degree : ℕ → ℕ
@@ -22,20 +23,12 @@ gas_flux g s =
 
 -- what is said of a step: the flux from its gas temperature, as long as there is one
 abbrev pub gas_tells : List ℕ → ℕ → ℕ → Reading
-gas_tells gs k t = cond (nat_lt k (length gs)) (Flux (gas_flux (slice_index gs k) (steel_degree t))) Ended
-
--- a whole degree from 20 to 1,200
-abbrev pub GasDegree : ℕ → Type 0
-GasDegree g = (20 ≤ g) × (g ≤ 1200)
-
--- every temperature of a list is such a degree
-abbrev pub GasDegrees : List ℕ → Type 0
-GasDegrees gs = (k : ℕ) → k < length gs → GasDegree (slice_index gs k)
+gas_tells gs k t = cond (nat_lt k (length gs)) (Ok (gas_flux (slice_index gs k) (steel_degree t))) (Err Ended)
 
 -- the first temperature outside 20 to 1,200, counted from i
 abbrev pub outside_from : ℕ → List ℕ → Option Refused
 outside_from i [] = None
-outside_from i (g ∷ gs) = cond (nat_le 20 g && nat_le g 1200) (outside_from (suc i) gs) (Some (9, i ∷ []))
+outside_from i (g ∷ gs) = cond (is_gas_degree g) (outside_from (suc i) gs) (Some (9, i ∷ []))
 
 -- the length comes first
 abbrev pub gas_fault : List ℕ → Option Refused

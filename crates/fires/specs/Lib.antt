@@ -1,4 +1,5 @@
 pub mod Gas
+pub mod GasDegrees
 pub mod Gauge
 pub mod Meaning
 pub mod Refusal

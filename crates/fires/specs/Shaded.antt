@@ -1,9 +1,9 @@
 -- A shaded fire by its parts.
-use Rattle.std.specs.Prelude.{ℕ, cond, ◌&&◌, [], pos, ◌*ℤ◌, Some, None, Option, nat_le}
+use Rattle.std.specs.Prelude.{ℕ, cond, ◌&&◌, [], pos, ◌*ℤ◌, Some, None, Ok, Err, Option, nat_le}
 use Rattle.rounding.specs.Quotient.{rounded_up}
 use Rattle.fires.specs.Refusal.{Refused}
-use Rattle.fires.specs.declared.meaning.Reading.{Reading}
-use Rattle.fires.specs.declared.meaning.Reading.TheVariants.{Flux, Missing, Ended}
+use Rattle.fires.specs.Meaning.{Reading}
+use Rattle.fires.specs.declared.meaning.NoFlux.TheVariants.{Missing, Ended}
 use Rattle.fires.specs.declared.shading.Shading.{Shading}
 use Rattle.fires.specs.declared.shading.shaded.Shaded.{Shaded}
 
@@ -21,9 +21,9 @@ shading_of f = f.shading
 
 -- a reading shaded to m thousandths: the flux is rounded up, and no reading and ended pass as they are
 abbrev pub shaded_reading : ℕ → Reading → Reading
-shaded_reading m (Flux q) = Flux (rounded_up (q *ℤ pos m) 1000)
-shaded_reading m Missing = Missing
-shaded_reading m Ended = Ended
+shaded_reading m (Ok q) = Ok (rounded_up (q *ℤ pos m) 1000)
+shaded_reading m (Err Missing) = Err Missing
+shaded_reading m (Err Ended) = Err Ended
 
 -- a shading lies from 1 to 1,000
 abbrev pub shading_fault : ℕ → Option Refused

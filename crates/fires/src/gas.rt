@@ -1,14 +1,22 @@
-// The store of a gas curve.
+// The temperatures of a gas curve.
 pub mod curve;
 
-ghost use Rattle.std.specs.Prelude.{ℕ, ◌<◌, ◌≤◌, slice_index};
+ghost use Rattle.fires.specs.GasDegrees.{GasDegree, GasDegrees};
 
-// A whole gas temperature for each step. What lies behind the count is free.
+use arrayvec::ArrayVec;
+
+const MOST_STEPS: usize = 4096;
+
+// A whole degree from 20 to 1,200.
+#[derive(Clone, Copy)]
+struct Degree {
+    whole: u32,
+    ghost within: { GasDegree whole },
+}
+
+// A whole gas temperature for each step.
 #[derive(Drop)]
 pub struct GasCurve {
-    store: [u32; 4096],
-    count: usize,
-    ghost fits: { count ≤ 4096 },
-    ghost least: { (k : ℕ) → k < count → 20 ≤ slice_index store k },
-    ghost most: { (k : ℕ) → k < count → slice_index store k ≤ 1200 },
+    temperatures: ArrayVec<u32, MOST_STEPS>,
+    ghost degrees: { GasDegrees temperatures.items },
 }

@@ -9,7 +9,7 @@ mod shading;
 
 pub use gas::GasCurve;
 pub use gauge::GaugeRecord;
-pub use meaning::{Fire, Reading};
+pub use meaning::{Fire, NoFlux};
 pub use refusal::Refusal;
 pub use shading::Shading;
 pub use shading::shaded::Shaded;

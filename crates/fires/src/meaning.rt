@@ -1,13 +1,15 @@
 // What a fire is: a number of steps and an answer for each, and the laws that the answers keep.
 ghost use Rattle.std.specs.Prelude.{◌≡◌, ℕ};
-ghost use Rattle.fires.specs.Meaning.{Answers};
-ghost use Rattle.fires.specs.declared.meaning.Reading.{Reading};
+ghost use Rattle.fires.specs.Meaning.{Answers, Reading};
 
-// What a fire says of a step: a net heat flux in W/m², that there is no reading, or that it has ended.
-#[derive(Clone, Copy, PartialEq, Eq, Debug)]
-pub enum Reading {
-    Flux(i32),
+use thiserror::Error;
+
+// Why a fire tells no flux of a step.
+#[derive(Clone, Copy, PartialEq, Eq, Debug, Error)]
+pub enum NoFlux {
+    #[error("the fire has no reading")]
     Missing,
+    #[error("the fire has ended")]
     Ended,
 }
 
@@ -21,7 +23,8 @@ pub trait Fire {
     fn step_count(&self) -> usize
         ensures { result ≡ steps self.now };
 
-    fn reading_at(&self, step: usize, temperature: u32) -> Reading
+    // The net heat flux into the steel in W/m².
+    fn reading_at(&self, step: usize, temperature: u32) -> Result<i32, NoFlux>
         ensures { result ≡ tells self.now step temperature };
 
     ghost answers: { (f : Self) → Answers (steps f) (tells f) };

@@ -2,17 +2,21 @@
 ghost use Rattle.std.specs.Prelude.{◌≡◌};
 ghost use Rattle.fires.specs.Refusal.{refused};
 
-#[derive(Clone, Copy, PartialEq, Eq, Debug)]
+use thiserror::Error;
+
+#[derive(Clone, Copy, PartialEq, Eq, Debug, Error)]
 pub enum Refusal {
-    // A gauge record of odd length or over 8,192 bytes.
+    #[error("a gauge record of odd length or of more than 8,192 bytes")]
     RecordLength,
-    // Over 4,096 gas temperatures (step 4096), or one outside 20 to 1,200.
+    // Of too many temperatures the step is 4096.
+    #[error("more than 4,096 gas temperatures, or one outside 20 to 1,200 (step {step})")]
     GasTemperature { step: usize },
-    // A shading outside 1 to 1,000.
+    #[error("a shading outside 1 to 1,000")]
     Shading,
 }
 
 impl Refusal {
+    // A variant with a value takes no number of its own, so a match gives them.
     pub fn number(&self) -> u32
         ensures { result ≡ (refused self.now).0 }
     {

@@ -4,6 +4,7 @@ ghost use Rattle.rounding.specs.Quotient.{ceil};
 ghost use Rattle.member_check.specs.Members.{figures_of};
 ghost use Rattle.member_check.specs.Check.{PassesBelow, PassesUnloaded, imperfection_of, passes_at, rules};
 ghost use Rattle.member_check.specs.Kept.{kept, kept_buckling};
+ghost use Rattle.steels.specs.declared.table.Reduction.TheVariants.{Stiffness, Strength};
 
 use crate::checked::Member;
 use rounding::rounded_up;
@@ -32,8 +33,8 @@ struct Factors {
 }
 
 fn factors_at<S: Steel>(steel: &S, degree: u32) -> Factors
-    ensures strength { result.strength ≡ S.Steel.strength steel.now degree }
-    ensures stiffness { result.stiffness ≡ S.Steel.stiffness steel.now degree }
+    ensures strength { result.strength ≡ S.Steel.factor steel.now Strength degree }
+    ensures stiffness { result.stiffness ≡ S.Steel.factor steel.now Stiffness degree }
 {
     Factors {
         strength: u64::from(steel.strength_at(degree)),
@@ -93,8 +94,9 @@ impl Demand {
     }
 
     // Whether the member carries its load in the steel at the degree.
+    #[tactic(auto, using(crate::proofs::Kept::reckoned))]
     pub fn passes_at<S: Steel>(&self, steel: &S, degree: u32) -> bool
-        ensures value { result ≡ passes_at (figures_of self.now.member) (S.Steel.strength steel.now) (S.Steel.stiffness steel.now) self.now.load degree }
+        ensures value { result ≡ passes_at (figures_of self.now.member) (S.Steel.factor steel.now Strength) (S.Steel.factor steel.now Stiffness) self.now.load degree }
         ensures below { PassesBelow }
         ensures unloaded { PassesUnloaded }
     {

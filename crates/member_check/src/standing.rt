@@ -2,6 +2,7 @@
 ghost use Rattle.std.specs.Prelude.{◌≡◌};
 ghost use Rattle.member_check.specs.Members.{figures_of};
 ghost use Rattle.member_check.specs.Check.{Critical, NoLower, PassesBelow, PassesUnloaded, critical_of, passes_at};
+ghost use Rattle.steels.specs.declared.table.Reduction.TheVariants.{Stiffness, Strength};
 
 use crate::checked::Member;
 use crate::demand::Demand;
@@ -9,7 +10,7 @@ use steels::Steel;
 
 // Whether the member carries the load in the steel at the degree.
 pub fn passes<S: Steel>(member: &Member, steel: &S, load: u64, degree: u32) -> bool
-    ensures value { result ≡ passes_at (figures_of member.now) (S.Steel.strength steel.now) (S.Steel.stiffness steel.now) load degree }
+    ensures value { result ≡ passes_at (figures_of member.now) (S.Steel.factor steel.now Strength) (S.Steel.factor steel.now Stiffness) load degree }
     ensures below { PassesBelow }
     ensures unloaded { PassesUnloaded }
 {
@@ -19,8 +20,8 @@ pub fn passes<S: Steel>(member: &Member, steel: &S, load: u64, degree: u32) -> b
 // The greatest whole degree from 20 to 1,200 at which the member passes, 19 if there is none.
 // It halves the degrees left: once a member fails, it passes at no higher degree.
 pub fn critical_temperature<S: Steel>(member: &Member, steel: &S, load: u64) -> u32
-    ensures value { result ≡ critical_of (figures_of member.now) (S.Steel.strength steel.now) (S.Steel.stiffness steel.now) load }
-    ensures parts { Critical (figures_of member.now) (S.Steel.strength steel.now) (S.Steel.stiffness steel.now) load result }
+    ensures value { result ≡ critical_of (figures_of member.now) (S.Steel.factor steel.now Strength) (S.Steel.factor steel.now Stiffness) load }
+    ensures parts { Critical (figures_of member.now) (S.Steel.factor steel.now Strength) (S.Steel.factor steel.now Stiffness) load result }
     ensures grows { NoLower }
 {
     let demand = Demand::of(member, load);

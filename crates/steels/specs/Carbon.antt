@@ -1,7 +1,7 @@
 -- Carbon steel by EN 1993-1-2: Table 3.1, and the heat capacity of 3.4.1.2.
 use Rattle.std.specs.Prelude.{ℕ, ◌+◌, ◌-◌, ◌*◌, ◌/◌, cond, List, [], ◌∷◌, nat_lt}
 use Rattle.steels.specs.declared.table.Row.{Row}
-use Rattle.steels.specs.declared.table.Column.{Column}
+use Rattle.steels.specs.declared.table.Reduction.{Reduction}
 use Rattle.steels.specs.Table.{clamped, tabled}
 
 abbrev row : ℕ → ℕ → ℕ → Row
@@ -15,8 +15,8 @@ carbon_rows =
     row 1000 400 450 ∷ row 1100 200 225 ∷ row 1200 0 0 ∷ []
 
 -- both factors between the rows: linear, rounded down
-abbrev pub carbon_factor : Column → ℕ → ℕ
-carbon_factor c = tabled c carbon_rows
+abbrev pub carbon_factor : Reduction → ℕ → ℕ
+carbon_factor r = tabled r carbon_rows
 
 -- 425 + 0.773 d - 0.00169 d² + 0.00000222 d³, in parts of 10^8, rounded down
 abbrev pub cubic : ℕ → ℕ

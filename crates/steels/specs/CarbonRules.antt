@@ -3,7 +3,7 @@ use Rattle.std.specs.Prelude.{◌≡◌, ℕ, zero, suc, ◌<◌, ◌≤◌, Boo
 use Rattle.std.proofs.Common.{ap, arith}
 use Rattle.std.proofs.lemmas.Bool.{and_parts, and_from, le-leb, leb-true}
 use Rattle.std.proofs.lemmas.Bool.Decides.{Decides-below_and}
-use Rattle.steels.specs.declared.table.Column.{Column}
+use Rattle.steels.specs.declared.table.Reduction.{Reduction}
 use Rattle.steels.specs.Carbon.{carbon_capacity, carbon_factor, carbon_rows, capacity_formula}
 use Rattle.steels.specs.Meaning.{Capacity, Factor}
 use Rattle.steels.specs.Table.{Linear, Sound, clamped}
@@ -12,11 +12,11 @@ use Rattle.steels.specs.Tables.{factor_law, linear_law}
 pub carbon_sound : Sound carbon_rows
 carbon_sound = omega arith
 
-pub carbon_factor_law : (c : Column) → Factor (carbon_factor c)
-carbon_factor_law c = factor_law c carbon_rows carbon_sound
+pub carbon_factor_law : (r : Reduction) → Factor (carbon_factor r)
+carbon_factor_law r = factor_law r carbon_rows carbon_sound
 
-pub carbon_linear : (c : Column) → Linear c carbon_rows (carbon_factor c)
-carbon_linear c = linear_law c carbon_rows carbon_sound
+pub carbon_linear : (r : Reduction) → Linear r carbon_rows (carbon_factor r)
+carbon_linear r = linear_law r carbon_rows carbon_sound
 
 capacity_in_range : ℕ → Bool
 capacity_in_range d = nat_le 300 (capacity_formula d) && nat_le (capacity_formula d) 6000

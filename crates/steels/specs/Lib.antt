@@ -7,5 +7,4 @@ pub mod MillStore
 pub mod Table
 pub mod CarbonRules
 pub mod Tables
-pub mod Lines
 pub mod Points

@@ -2,7 +2,7 @@
 use Rattle.std.specs.Prelude.{◌≡◌, ℕ, suc, ◌<◌, ◌≤◌, Bool, true, false, cond, not, ◌&&◌, ◌||◌, List, [], ◌∷◌, ◌++◌, map, length, Some, None, Option, ◌==◌, nat_le, nat_lt}
 use Rattle.std.specs.List.{AllByRecursion}
 use Rattle.steels.specs.declared.point.Point.{Point}
-use Rattle.steels.specs.declared.table.Column.{Column}
+use Rattle.steels.specs.declared.table.Reduction.{Reduction}
 use Rattle.steels.specs.declared.table.Row.{Row}
 use Rattle.steels.specs.Refusal.{Refused}
 use Rattle.steels.specs.Table.{Linear, clamped, tabled}
@@ -44,8 +44,8 @@ abbrev pub sheet_fault : List Point → Option Refused
 sheet_fault points = cond (nat_le 2 (length points) && nat_le (length points) 64) (point_fault 0 None points) (Some (5, []))
 
 -- the factors: linear between the points, rounded down
-abbrev pub sheet_factor : Column → List Point → ℕ → ℕ
-sheet_factor c points = tabled c (map row_of points)
+abbrev pub sheet_factor : Reduction → List Point → ℕ → ℕ
+sheet_factor r points = tabled r (map row_of points)
 
 -- the heat capacity of the last of the points that is not above d, c if none is
 abbrev pub capacity_from : ℕ → List Point → ℕ → ℕ
@@ -71,5 +71,5 @@ first_points = full_point 20 ∷ full_point 1200 ∷ []
 
 -- what the points of a sheet say of its steel
 pub record Follows (points : List Point) : Type 0 where
-  pub factors : (c : Column) → Linear c (map row_of points) (sheet_factor c points)
+  pub factors : (r : Reduction) → Linear r (map row_of points) (sheet_factor r points)
   pub capacity : LastNotAbove points (sheet_capacity points)

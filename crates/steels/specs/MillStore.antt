@@ -1,7 +1,7 @@
--- The view of a mill sheet: its points. What the store holds behind them is free.
-use Rattle.std.specs.Prelude.{List, take}
+-- The view of a mill sheet: its points.
+use Rattle.std.specs.Prelude.{List}
 use Rattle.steels.specs.declared.point.Point.{Point}
 use Rattle.steels.specs.declared.mill.MillSheet.{MillSheet}
 
 abbrev pub points_of : MillSheet → List Point
-points_of sheet = take sheet.count sheet.points
+points_of sheet = sheet.points.items

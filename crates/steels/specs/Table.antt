@@ -1,31 +1,31 @@
 -- A table of reduction factors: rows of rising degrees, and the broken line through them.
 use Rattle.std.specs.Prelude.{◌≡◌, ℕ, ◌+◌, ◌-◌, ◌*◌, ◌/◌, ◌<◌, ◌≤◌, min, max, cond, List, [], ◌∷◌, ◌++◌, nat_lt}
-use Rattle.steels.specs.declared.table.Column.{Column}
-use Rattle.steels.specs.declared.table.Column.TheVariants.{Strength, Stiffness}
+use Rattle.steels.specs.declared.table.Reduction.{Reduction}
+use Rattle.steels.specs.declared.table.Reduction.TheVariants.{Strength, Stiffness}
 use Rattle.steels.specs.declared.table.Row.{Row}
 
--- what stands in a row under a column
-abbrev pub cell : Column → Row → ℕ
+-- the factor of a row
+abbrev pub cell : Reduction → Row → ℕ
 cell Strength row = row.strength
 cell Stiffness row = row.stiffness
 
 -- the line from row p to row q, at degree d, rounded down
-abbrev pub between : Column → Row → Row → ℕ → ℕ
-between c p q d = (cell c p * (q.degree - d) + cell c q * (d - p.degree)) / (q.degree - p.degree)
+abbrev pub between : Reduction → Row → Row → ℕ → ℕ
+between r p q d = (cell r p * (q.degree - d) + cell r q * (d - p.degree)) / (q.degree - p.degree)
 
 -- the broken line from row p on, through the rows behind it
-abbrev pub line : Column → Row → List Row → ℕ → ℕ
-line c p [] d = cell c p
-line c p (q ∷ rows) d = cond (nat_lt d q.degree) (between c p q d) (line c q rows d)
+abbrev pub line : Reduction → Row → List Row → ℕ → ℕ
+line r p [] d = cell r p
+line r p (q ∷ rows) d = cond (nat_lt d q.degree) (between r p q d) (line r q rows d)
 
 -- the degree between 20 and 1,200 that is nearest to d
 abbrev pub clamped : ℕ → ℕ
 clamped d = max 20 (min d 1200)
 
 -- the factor of a whole table: outside its degrees that of the nearer end
-abbrev pub tabled : Column → List Row → ℕ → ℕ
-tabled c [] d = 0
-tabled c (p ∷ rows) d = line c p rows (clamped d)
+abbrev pub tabled : Reduction → List Row → ℕ → ℕ
+tabled r [] d = 0
+tabled r (p ∷ rows) d = line r p rows (clamped d)
 
 -- what may stand behind row p: degrees that rise strictly up to 1,200, and factors that never rise
 abbrev pub Behind : Row → List Row → Type 0
@@ -38,6 +38,6 @@ Sound [] = ⊥
 Sound (p ∷ rows) = (p.degree ≡ 20) × (p.strength ≤ 10000) × (p.stiffness ≤ 10000) × Behind p rows
 
 -- f is linear between any two neighbouring rows of the table, rounded down
-abbrev pub Linear : Column → List Row → (ℕ → ℕ) → Type 0
-Linear c rows f =
-    (before after : List Row) (p q : Row) (d : ℕ) → rows ≡ before ++ (p ∷ q ∷ after) → p.degree ≤ d → d ≤ q.degree → f d ≡ between c p q d
+abbrev pub Linear : Reduction → List Row → (ℕ → ℕ) → Type 0
+Linear r rows f =
+    (before after : List Row) (p q : Row) (d : ℕ) → rows ≡ before ++ (p ∷ q ∷ after) → p.degree ≤ d → d ≤ q.degree → f d ≡ between r p q d

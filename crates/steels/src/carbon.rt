@@ -2,12 +2,11 @@
 ghost use Rattle.std.specs.Prelude.{◌≡◌, ◌≤◌};
 ghost use Rattle.steels.specs.Carbon.{carbon_capacity, carbon_factor, carbon_rows, cubic};
 ghost use Rattle.steels.specs.Table.{Linear};
-ghost use Rattle.steels.specs.declared.table.Column.{Column};
-ghost use Rattle.steels.specs.declared.table.Column.TheVariants.{Stiffness, Strength};
+ghost use Rattle.steels.specs.declared.table.Reduction.{Reduction};
 ghost use Rattle.steels.specs.CarbonRules.{carbon_factor_law, carbon_capacity_law};
 
 use crate::meaning::Steel;
-use crate::table::{Column, Row, clamp, factor_at};
+use crate::table::{Reduction, Row, clamp, factor_at};
 
 const ROWS: [Row; 13] = [
     Row {
@@ -82,32 +81,25 @@ const ROWS: [Row; 13] = [
 pub struct Carbon;
 
 impl Carbon {
+    #[tactic(auto, using(crate::specs::CarbonRules::carbon_linear))]
     pub fn new() -> Carbon
-        ensures { (c : Column) → Linear c carbon_rows (carbon_factor c) }
+        ensures { (r : Reduction) → Linear r carbon_rows (carbon_factor r) }
     {
         Carbon
     }
 }
 
 impl Steel for Carbon {
-    ghost strength = { λ _. carbon_factor Strength };
-
-    ghost stiffness = { λ _. carbon_factor Stiffness };
+    ghost factor = { λ _. carbon_factor };
 
     ghost capacity = { λ _. carbon_capacity };
 
-    ghost strength_law = { λ s. carbon_factor_law Strength };
-
-    ghost stiffness_law = { λ s. carbon_factor_law Stiffness };
+    ghost factor_law = { λ s. carbon_factor_law };
 
     ghost capacity_law = { λ s. carbon_capacity_law };
 
-    fn strength_at(&self, degree: u32) -> u32 {
-        factor_at(Column::Strength, &ROWS, degree)
-    }
-
-    fn stiffness_at(&self, degree: u32) -> u32 {
-        factor_at(Column::Stiffness, &ROWS, degree)
+    fn factor_at(&self, reduction: Reduction, degree: u32) -> u32 {
+        factor_at(reduction, &ROWS, degree)
     }
 
     fn capacity_at(&self, degree: u32) -> u32 {
@@ -129,7 +121,7 @@ fn cubic_capacity(degree: u32) -> u32
     requires { degree ≤ 600 }
     ensures { result ≡ cubic degree }
 {
-    let d = degree as u64;
+    let d = u64::from(degree);
     let parts = 42_500_000_000 + 77_300_000 * d + 222 * (d * d * d) - 169_000 * (d * d);
     (parts / 100_000_000) as u32
 }

@@ -16,3 +16,4 @@ pub use meaning::Steel;
 pub use mill::MillSheet;
 pub use point::Point;
 pub use refusal::Refusal;
+pub use table::Reduction;

@@ -1,16 +1,15 @@
 // The store of a mill sheet.
 pub mod sheet;
 
-ghost use Rattle.std.specs.Prelude.{◌≡◌, ◌≤◌, false, take, is_some};
+ghost use Rattle.std.specs.Prelude.{◌≡◌, false, is_some};
 ghost use Rattle.steels.specs.Mill.{sheet_fault};
 
 use crate::point::Point;
+use arrayvec::ArrayVec;
 
-// The points in hand are always without fault. What lies behind the count is free.
+// The points in hand are always without fault.
 #[derive(Drop)]
 pub struct MillSheet {
-    points: [Point; 64],
-    count: usize,
-    ghost few: { count ≤ 64 },
-    ghost sound: { is_some (sheet_fault (take count points)) ≡ false },
+    points: ArrayVec<Point, 64>,
+    ghost sound: { is_some (sheet_fault points.items) ≡ false },
 }

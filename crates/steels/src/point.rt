@@ -1,10 +1,9 @@
 // A point of a mill sheet: two reduction factors in ten-thousandths and a heat capacity in J/(kg K) at a degree.
-ghost use Rattle.std.specs.Prelude.{◌≡◌, List, map};
 ghost use Rattle.steels.specs.Mill.{row_of};
 
 use crate::table::{Row, Tabled};
 
-#[derive(Clone, Copy)]
+#[derive(Clone, Copy, Default)]
 pub struct Point {
     pub degree: u32,
     pub strength: u32,

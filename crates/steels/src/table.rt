@@ -1,5 +1,5 @@
 // Tables of reduction factors, read by linear interpolation rounded down.
-ghost use Rattle.std.specs.Prelude.{◌≡◌, ◌/◌, ◌<◌, ◌≤◌, map};
+ghost use Rattle.std.specs.Prelude.{◌≡◌, ◌<◌, ◌≤◌, map};
 ghost use Rattle.steels.specs.Table.{Sound, between, cell, clamped, line, tabled};
 ghost use Rattle.steels.specs.declared.table.Row.{Row};
 
@@ -11,25 +11,26 @@ pub struct Row {
     pub stiffness: u32,
 }
 
-// Which of the two factors is asked for.
-#[derive(Clone, Copy)]
-pub enum Column {
+// Which of the two reduction factors: that of the strength or that of the stiffness.
+#[derive(Clone, Copy, PartialEq, Eq, Debug)]
+pub enum Reduction {
     Strength,
     Stiffness,
 }
 
 impl Row {
-    fn cell(&self, column: Column) -> u32
-        ensures { result ≡ cell column self.now }
+    fn cell(&self, reduction: Reduction) -> u32
+        ensures { result ≡ cell reduction self.now }
     {
-        match column {
-            Column::Strength => self.strength,
-            Column::Stiffness => self.stiffness,
+        match reduction {
+            Reduction::Strength => self.strength,
+            Reduction::Stiffness => self.stiffness,
         }
     }
 }
 
 // An entry of a table: a row, alone or with more beside it.
+// Not std's `From<P> for Row`: that says which rows are right, and the contracts name the one list `map row`.
 pub trait Tabled {
     ghost row: { Self → Row };
 
@@ -46,47 +47,40 @@ impl Tabled for Row {
 }
 
 // The line from one row to a later one, rounded down.
-fn interpolated(column: Column, from: Row, to: Row, degree: u32) -> u32
+fn interpolated(reduction: Reduction, from: Row, to: Row, degree: u32) -> u32
     requires { (from.degree ≤ degree) × (degree < to.degree) }
-    ensures { result ≡ between column from to degree }
+    ensures { result ≡ between reduction from to degree }
 {
-    let cold = from.cell(column) as u64 * (to.degree - degree) as u64;
-    let hot = to.cell(column) as u64 * (degree - from.degree) as u64;
-    whole_part(cold + hot, (to.degree - from.degree) as u64) as u32
-}
-
-fn whole_part(parts: u64, weight: u64) -> u64
-    requires { 0 < weight }
-    ensures { result ≡ parts / weight }
-{
-    parts / weight
+    let cold = u64::from(from.cell(reduction)) * u64::from(to.degree - degree);
+    let hot = u64::from(to.cell(reduction)) * u64::from(degree - from.degree);
+    ((cold + hot) / u64::from(to.degree - from.degree)) as u32
 }
 
 // The broken line from the first row on.
-fn along<P: Tabled>(column: Column, first: Row, rest: &[P], degree: u32) -> u32
+fn along<P: Tabled>(reduction: Reduction, first: Row, rest: &[P], degree: u32) -> u32
     requires { first.degree ≤ degree }
-    ensures { result ≡ line column first (map P.Tabled.row rest.now) degree }
+    ensures { result ≡ line reduction first (map P.Tabled.row rest.now) degree }
 {
     let mut from = first;
     for next in rest {
         let to = next.to_row();
         if degree < to.degree {
-            return interpolated(column, from, to, degree);
+            return interpolated(reduction, from, to, degree);
         }
         from = to;
     }
-    from.cell(column)
+    from.cell(reduction)
 }
 
 // A factor of a table at any degree; outside the table that of the nearer end.
-pub(crate) fn factor_at<P: Tabled>(column: Column, table: &[P], degree: u32) -> u32
+pub(crate) fn factor_at<P: Tabled>(reduction: Reduction, table: &[P], degree: u32) -> u32
     requires { Sound (map P.Tabled.row table.now) }
-    ensures { result ≡ tabled column (map P.Tabled.row table.now) degree }
+    ensures { result ≡ tabled reduction (map P.Tabled.row table.now) degree }
 {
     let [first, rest @ ..] = table else {
         return 0;
     };
-    along(column, first.to_row(), rest, clamp(degree))
+    along(reduction, first.to_row(), rest, clamp(degree))
 }
 
 // The degree between 20 and 1,200 that is nearest.

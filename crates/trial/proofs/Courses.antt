@@ -1,9 +1,8 @@
 -- How far a course goes, and that it goes on from any of its steps.
-use Rattle.std.proofs.Common.{◌≡◌, ℕ, zero, suc, ◌+◌, ◌-◌, ◌<◌, ◌≤◌, Bool, true, false, leb, ℤ, pos, negsuc, is_some, Some, None, Option, unwrap_or, sym, refl, ap, ◌∙◌, ⊎_elim, add-zero, add-suc, zero-add, arith}
+use Rattle.std.proofs.Common.{◌≡◌, ℕ, zero, suc, ◌+◌, ◌-◌, ◌<◌, ◌≤◌, Bool, true, false, leb, ℤ, pos, negsuc, is_some, Some, None, Ok, Err, Option, unwrap_or, sym, refl, ap, ◌∙◌, ⊎_elim, add-zero, add-suc, zero-add, arith}
 use Rattle.std.proofs.lemmas.Bool.{cases_lt, both_ways, cond-true, le-leb}
 use Rattle.std.proofs.lemmas.Bool.Decides.{nat_tests}
-use Rattle.fires.specs.declared.meaning.Reading.{Reading}
-use Rattle.fires.specs.declared.meaning.Reading.TheVariants.{Flux, Missing, Ended}
+use Rattle.fires.specs.Meaning.{Reading}
 use Rattle.trial.specs.Parts.{Parts}
 use Rattle.trial.specs.Heating.{at_least, heated_by, stepped, stop_of}
 use Rattle.trial.specs.Questions.{first}
@@ -52,9 +51,8 @@ not_colder (pos n) = omega arith
 not_colder (negsuc n) = omega arith
 
 warm : (p : Parts) (t : ℕ) (r : Reading) → 20000 ≤ t → 20000 ≤ heated_by p t r
-warm p t (Flux q) h = not_colder _
-warm p t Missing h = h
-warm p t Ended h = h
+warm p t (Ok q) h = not_colder _
+warm p t (Err e) h = h
 
 pub stepped_least : (p : Parts) (k t : ℕ) → 20000 ≤ t → 20000 ≤ stepped p k t
 stepped_least p k t h = warm p t (p.tells k t) h

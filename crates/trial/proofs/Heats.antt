@@ -1,9 +1,10 @@
 -- A heat on its way, and what it comes to.
-use Rattle.std.proofs.Common.{◌≡◌, ℕ, suc, ◌+◌, ◌-◌, ◌<◌, ◌≤◌, false, leb, is_some, Some, None, Option, sym, refl, ap, ◌∙◌, ⊎_elim, arith}
-use Rattle.std.proofs.lemmas.Bool.{both_ways, cases_lt, cond-false, cond-true, le-leb, lt-leb}
+use Rattle.std.proofs.Common.{below_more, ◌≡◌, ℕ, suc, ◌+◌, ◌-◌, ◌<◌, ◌≤◌, false, is_some, Some, None, Option, sym, refl, ap, ◌∙◌, ⊎_elim, arith}
+use Rattle.std.proofs.lemmas.Bool.Decides.{nat_tests}
+use Rattle.std.proofs.lemmas.Bool.{both_ways, cases_lt}
 use Rattle.trial.specs.Parts.{Parts}
-use Rattle.trial.specs.Course.{ahead, reach, stop_ahead, stop_code}
-use Rattle.trial.specs.Calls.{after_heat, heat_answer, next_end, next_stop}
+use Rattle.trial.specs.Course.{ahead, stop_ahead}
+use Rattle.trial.specs.Calls.{after_heat, heat_made, heat_stop, next_end, next_stop}
 use Rattle.trial.specs.Heating.{stepped, stop_of}
 use Rattle.trial.specs.Views.{Same, View, last_of}
 use Rattle.trial.specs.declared.stop.Stop.{Stop}
@@ -29,7 +30,7 @@ pub record Added (v : View) (t : ℕ) (w : View) : Type 0 where
 
 -- what a heat owes when it returns
 abbrev pub Heats : View → ℕ → ℕ → Option Stop → View → Type 0
-Heats v asked made stop w = record { made : made ≡ (heat_answer v asked).0; stop : stop_code stop ≡ (heat_answer v asked).1; after : Same (after_heat v asked) w }
+Heats v asked made stop w = record { made : made ≡ heat_made v asked; stop : stop ≡ heat_stop v asked; after : Same (after_heat v asked) w }
 
 pub heating_starts : (v : View) → v.standing ≤ 4096 → Heating v 0 v
 unfolding ahead
@@ -69,24 +70,16 @@ module _ (v w : View) (made : ℕ) (h : Heating v made w) where
         let place : v.standing + j ≡ w.standing + 1 = omega (arith, h.standing) in
         ap x.temperature place ∙ (more.new ∙ (rule ∙ (at_last ℕ stepped ∙ rw e refl))))
         (cases_lt j (made + 1));
-    goes = λ j l. ⊎_elim (λ (l : j < made). h.goes j l)
-        (λ (u : made ≤ j). let e : j ≡ made = omega arith in rw e (ap is_some (sym (at_last (Option Stop) stop_of) ∙ sym free)))
-        (cases_lt j made);
+    goes = below_more _ _ h.goes (ap is_some (sym (at_last (Option Stop) stop_of) ∙ sym free));
   }
 
-  same_as_after : (asked : ℕ) → made ≡ (heat_answer v asked).0 → Same (after_heat v asked) w
+  same_as_after : (asked : ℕ) → made ≡ heat_made v asked → Same (after_heat v asked) w
   same_as_after asked e = record {
     parts = h.parts;
     load = h.load;
     standing = h.standing ∙ ap (λ m. v.standing + m) e;
-    temperature = λ k le. ⊎_elim (λ (l : v.standing < k).
-        h_beyond k l (omega (arith, e)) ∙ sym (cond-false (leb k v.standing) _ _ (lt-leb _ _ l)))
-        (λ (u : k ≤ v.standing). h.kept k u ∙ sym (cond-true (leb k v.standing) _ _ (le-leb _ _ u)))
-        (cases_lt v.standing k);
+    temperature = λ k le. grind (arith, nat_tests, h.kept k, h.new (k - v.standing));
   }
-    where
-      h_beyond : (k : ℕ) → v.standing < k → k ≤ v.standing + made → w.temperature k ≡ ahead v.parts v.standing (last_of v) (k - v.standing)
-      h_beyond k l le = ap w.temperature (omega arith) ∙ h.new (k - v.standing) (omega arith)
 
   -- nothing stopped it: all steps asked for are made
   pub heating_done : (asked : ℕ) → made ≡ asked → v.standing ≤ 4096 → Heats v asked asked None w
@@ -94,7 +87,7 @@ module _ (v w : View) (made : ℕ) (h : Heating v made w) where
       let fits = reach_least v.parts v.standing (last_of v) few made h.goes in
       record {
         made = omega arith;
-        stop = sym (cond-true (leb asked (reach v.parts v.standing (last_of v))) _ _ (le-leb _ _ (omega arith)));
+        stop = grind (arith, nat_tests);
         after = same_as_after asked (omega arith);
       }
 
@@ -103,9 +96,9 @@ module _ (v w : View) (made : ℕ) (h : Heating v made w) where
   heating_stopped asked stop short stops =
       let here = sym (at_last (Option Stop) stop_of) ∙ sym stops in
       let ends = reach_at v.parts v.standing (last_of v) made (omega (arith, h.few, h.standing)) h.goes (ap is_some here) in
-      let some : made ≡ (heat_answer v asked).0 = omega (arith, ends) in
+      let some : made ≡ heat_made v asked = omega (arith, ends) in
       record {
         made = some;
-        stop = sym (cond-false (leb asked (reach v.parts v.standing (last_of v))) _ _ (lt-leb _ _ (omega (arith, ends))) ∙ (ap (λ r. stop_code (stop_ahead v.parts v.standing (last_of v) r)) ends ∙ ap stop_code here));
+        stop = grind (arith, nat_tests);
         after = same_as_after asked some;
       }

@@ -1,29 +1,30 @@
 -- The law over runs.
-use Rattle.std.proofs.Common.{◌≡◌, ℕ, zero, suc, ◌*◌, ◌<◌, ◌≤◌, Bool, true, false, cond, ltb, List, [], ◌∷◌, ◌++◌, is_ok, IfOk, Some, None, Option, Result, sym, refl, ap, ◌∙◌, subst, ⊎_elim, arith}
-use Rattle.std.specs.Option.{option_map}
-use Rattle.std.specs.Result.{result_err}
+use Rattle.std.proofs.Common.{◌≡◌, ℕ, zero, suc, ◌*◌, ◌<◌, ◌≤◌, true, ltb, List, [], ◌∷◌, ◌++◌, Some, None, Option, sym, refl, ap, ◌∙◌, subst, ⊎_elim, arith}
 use Rattle.std.proofs.lemmas.Bool.{cases_lt, both_ways, ltb-false, le-ltb}
 use Rattle.steels.specs.Meaning.{Factor}
+use Rattle.steels.specs.declared.meaning.Steel as steel
+use Rattle.steels.specs.declared.table.Reduction.{Reduction}
+use Rattle.steels.specs.declared.table.Reduction.TheVariants.{Stiffness, Strength}
+use Rattle.fires.specs.declared.meaning.Fire as fire
 use Rattle.trial.specs.Parts.{Parts}
 use Rattle.trial.specs.Questions.{fails, hottest}
 use Rattle.trial.specs.Course.{entry, end}
-use Rattle.trial.specs.Views.{Same, View, new_view}
-use Rattle.trial.specs.Answers.{carried_cold, critical_under, judged}
-use Rattle.trial.specs.Calls.{after, after_heat, hottest_in, outcome_of, reply}
-use Rattle.trial.specs.Refusal.{refused}
+use Rattle.trial.specs.Views.{Same, View, new_view, view_of}
+use Rattle.trial.specs.Answers.{carried_cold, critical_under}
+use Rattle.trial.specs.Calls.{after_heat, hottest_in}
 use Rattle.trial.specs.Tally.{Tally, answer, start, tallied, tally}
 use Rattle.trial.specs.Law.{Follows, Equal, AsHeatedAtOnce, Highest, Lowest, Verdict, Law, Lawful}
 use Rattle.trial.specs.declared.call.Answer.{Answer}
 use Rattle.trial.specs.declared.call.Call.{Call}
 use Rattle.trial.specs.declared.call.Call.TheVariants.{Heat}
-use Rattle.trial.specs.declared.refusal.Refusal.{Refusal}
+use Rattle.trial.specs.declared.sheet.Sheet.{Sheet}
 use Rattle.trial.proofs.First.{Searched, hottest_least, hottest_most, searched}
 use Rattle.trial.proofs.Courses.{entry_least, entry_most}
 use Rattle.trial.proofs.Tallies.{counted_is, tally_sound}
 use Rattle.trial.proofs.Failing.{critical_in_parts, fails_above}
 use Rattle.trial.proofs.Runs.{goes_on, made, starts}
 use Rattle.trial.proofs.Alike.{same_refl}
-use Rattle.trial.proofs.Settled.{settled_call}
+use Rattle.trial.proofs.Settled.{Answered}
 use Rattle.trial.proofs.Stopped.{course}
 use Rattle.trial.proofs.Outlasting.{outlasts}
 
@@ -100,7 +101,7 @@ module _ (calls : List Call) (v : View) (h : Follows v.parts calls v) where
 own : (p : Parts) (calls : List Call) (v : View) → Follows p calls v → Follows v.parts calls v
 own p calls v h = subst (λ q. Follows q calls v) (sym h.parts) h
 
-pub law_holds : (p : Parts) (calls : List Call) (v : View) → Factor v.parts.strength → Factor v.parts.stiffness → Follows p calls v → Law p calls v
+law_holds : (p : Parts) (calls : List Call) (v : View) → Factor v.parts.strength → Factor v.parts.stiffness → Follows p calls v → Law p calls v
 law_holds p calls v fy fz h = record {
   course = course p;
   follows = h;
@@ -110,15 +111,19 @@ law_holds p calls v fy fz h = record {
   outlasted = λ q others w g better. outlasts others calls w v (own q others w g) (own p calls v h) better;
 }
 
-pub lawful : (v w : View) (c : Call) (r : Answer) → Factor w.parts.strength → Factor w.parts.stiffness → r ≡ reply v c → Same (after v c) w → Lawful v c r w
-lawful v w c r fy fz told same p calls h =
-    let on = goes_on calls v w c (own p calls v h) same in
-    (told ∙ (on.0 ∙ ap (λ q. answer q (tally q calls) c) h.parts), law_holds p _ w fy fz (subst (λ q. Follows q (calls ++ (c ∷ [])) w) h.parts on.1))
+-- so for sheets over any steel and fire
+module _ {S F : Type 0} (s : steel.Ghosts S) (f : fire.Ghosts F) (factors : (x : S) (r : Reduction) → Factor (s.factor x r)) where
+  pub law_starts : (p : Parts) (sheet : Sheet S F) → Same (new_view p) (view_of s f sheet) → Law p [] (view_of s f sheet)
+  law_starts p sheet new =
+      let v = view_of s f sheet in
+      law_holds p [] v (factors sheet.steel Strength) (factors sheet.steel Stiffness)
+      (subst (λ q. Follows q [] v) new.parts (starts v new.standing new.load (new.temperature 0 (omega arith))))
 
--- the same for a call that can refuse
-pub settled_lawful : (v w : View) (c : Call) (good : Bool) (cause : Refusal) (result : Result (Unit {0}) Refusal) (u : View)
-    → Factor w.parts.strength → Factor w.parts.stiffness → judged good cause ≡ reply v c → cond good u v ≡ after v c
-    → option_map refused (result_err result) ≡ cond good None (Some (refused cause)) → IfOk result (λ _. Same u w) → (is_ok result ≡ false → w ≡ v) → Lawful v c (outcome_of result) w
-settled_lawful v w c good cause result u fy fz says goes fault taken kept =
-    let owed = settled_call v w c c good cause result (outcome_of result) u refl refl says goes fault taken kept in
-    lawful v w c (outcome_of result) fy fz owed.answer owed.after
+  pub lawful : (old new : Sheet S F) (c : Call) (r : Answer) → Answered (view_of s f old) c r (view_of s f new) → Lawful (view_of s f old) c r (view_of s f new)
+  lawful old new c r done p calls h =
+      let v = view_of s f old in
+      let w = view_of s f new in
+      let on = goes_on calls v w c (own p calls v h) done.after in (
+        done.answer ∙ (on.0 ∙ ap (λ q. answer q (tally q calls) c) h.parts),
+        law_holds p _ w (factors new.steel Strength) (factors new.steel Stiffness) (subst (λ q. Follows q (calls ++ (c ∷ [])) w) h.parts on.1),
+      )

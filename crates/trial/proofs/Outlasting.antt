@@ -1,8 +1,7 @@
 -- Less load and factors nowhere lower: no step fails that did not fail before.
-use Rattle.std.proofs.Common.{◌≡◌, ℕ, zero, suc, ◌+◌, ◌/◌, ◌<◌, ◌≤◌, Bool, true, List, Some, None, Option, sym, refl, ap, ◌∙◌, ⊎_elim, arith, lit<}
+use Rattle.std.proofs.Common.{◌≡◌, ℕ, zero, suc, ◌+◌, ◌/◌, ◌<◌, ◌≤◌, Bool, true, List, Some, None, Ok, Err, Option, sym, refl, ap, ◌∙◌, ⊎_elim, arith, lit<}
 use Rattle.std.proofs.lemmas.Bool.{cases_lt, cases_Bool, both_ways, not-true, not_from_false}
-use Rattle.fires.specs.declared.meaning.Reading.{Reading}
-use Rattle.fires.specs.declared.meaning.Reading.TheVariants.{Flux, Missing, Ended}
+use Rattle.fires.specs.Meaning.{Reading}
 use Rattle.member_check.specs.Check.{passes_at}
 use Rattle.member_check.proofs.Falling.{carries_kept}
 use Rattle.member_check.proofs.Search.{greatest_grows}
@@ -25,9 +24,8 @@ no_later p b k (Some j) h holds told =
 module _ (cs ds : List Call) (v w : View) (h : Follows v.parts cs v) (g : Follows w.parts ds w) (better : NoWorse v w) where
   -- the factors have no part in the course
   same_heat : (t : ℕ) (r : Reading) → heated_by w.parts t r ≡ heated_by v.parts t r
-  same_heat t (Flux q) = cc (better.figures, better.capacity (t / 1000))
-  same_heat t Missing = refl
-  same_heat t Ended = refl
+  same_heat t (Ok q) = cc (better.figures, better.capacity (t / 1000))
+  same_heat t (Err e) = refl
 
   same_course : (k : ℕ) → entry w.parts k ≡ entry v.parts k
   unfolding ahead

@@ -1,10 +1,9 @@
 -- A sheet follows the tally of its calls: at first, and from call to call.
-use Rattle.std.proofs.Common.{◌≡◌, ℕ, suc, ◌+◌, ◌-◌, ◌<◌, ◌≤◌, min, Bool, true, false, cond, leb, List, [], ◌∷◌, ◌++◌, sym, refl, ap, ◌∙◌, subst, ⊎_elim, arith}
-use Rattle.std.proofs.lemmas.Bool.{cases_lt, cond-true, cond-false, le-leb, lt-leb}
+use Rattle.std.proofs.Common.{◌≡◌, ℕ, suc, ◌-◌, ◌≤◌, min, Bool, true, false, cond, leb, List, [], ◌∷◌, ◌++◌, None, Option, refl, ap, ◌∙◌, subst, arith}
 use Rattle.std.proofs.lemmas.Bool.Decides.{nat_tests}
 use Rattle.trial.specs.Parts.{Parts}
 use Rattle.trial.specs.Questions.{fails}
-use Rattle.trial.specs.Course.{ahead, stop_code, stop_ahead, reach, entry, end, end_stop}
+use Rattle.trial.specs.Course.{ahead, stop_ahead, reach, entry, end, end_cause}
 use Rattle.trial.specs.Views.{View, Same}
 use Rattle.trial.specs.Answers.{told, can_go_back, carried_cold, judged}
 use Rattle.trial.specs.Calls.{reply, after, after_back, after_load}
@@ -16,6 +15,7 @@ use Rattle.trial.specs.declared.call.Call.TheVariants.{Heat, Back, Load, Ask}
 use Rattle.trial.specs.declared.call.Question.{Question}
 use Rattle.trial.specs.declared.call.Question.TheVariants.{Standing, TemperatureAt, Hottest, CriticalTemperature, FirstFailing}
 use Rattle.trial.specs.declared.refusal.Refusal.TheVariants.{BackBeyondStart}
+use Rattle.trial.specs.declared.stop.Stop.{Stop}
 use Rattle.trial.proofs.First.{first_same, hottest_same}
 use Rattle.trial.proofs.Courses.{ahead_on, reach_on, end_on}
 use Rattle.trial.proofs.Tallies.{changed, counted_is, tallied_more, tally_sound}
@@ -39,7 +39,7 @@ told_same p load n t u FirstFailing same =
     cc (first_same (λ k. fails p load (t k)) (λ k. fails p load (u k)) (suc n) (λ j h. ap (fails p load) (same j (omega arith))))
 
 -- what a heat answers: all that is asked, or what is remaining and the cause
-heat_told : (asked remaining stop : ℕ) → Heated (min asked remaining) (cond (leb asked remaining) 0 stop) ≡ cond (leb asked remaining) (Heated asked 0) (Heated remaining stop)
+heat_told : (asked remaining : ℕ) (stop : Option Stop) → Heated (min asked remaining) (cond (leb asked remaining) None stop) ≡ cond (leb asked remaining) (Heated asked None) (Heated remaining stop)
 heat_told asked remaining stop = grind (arith, nat_tests)
 
 -- a sheet stands where a tally says, on the course of p
@@ -85,8 +85,8 @@ module _ (calls : List Call) (v : View) (h : Follows v.parts calls v) where
   -- the answer is the tally's
   reply_told : (c : Call) → reply v c ≡ answer v.parts (tally v.parts calls) c
   reply_told (Heat asked) =
-      ap (λ r. Heated (min asked r) (cond (leb asked r) 0 (stop_code (stop_ahead p n (v.temperature n) r)))) reach_left
-      ∙ (ap (λ s. Heated (min asked (remaining p y)) (cond (leb asked (remaining p y)) 0 (stop_code s))) stop_left ∙ heat_told asked (remaining p y) (end_stop p))
+      ap (λ r. Heated (min asked r) (cond (leb asked r) None (stop_ahead p n (v.temperature n) r))) reach_left
+      ∙ (ap (λ s. Heated (min asked (remaining p y)) (cond (leb asked (remaining p y)) None s)) stop_left ∙ heat_told asked (remaining p y) (end_cause p))
   reply_told (Back steps) = ap (λ m. judged (can_go_back m steps) BackBeyondStart) h.standing
   reply_told (Load load) = refl
   reply_told (Ask q) = told_same p v.load n v.temperature (entry p) q h.course ∙ cc (h.standing, h.load)
@@ -95,11 +95,7 @@ module _ (calls : List Call) (v : View) (h : Follows v.parts calls v) where
   now = record { parts = refl; standing = h.standing; load = h.load; course = h.course }
 
   heated_course : (k : ℕ) → cond (leb k n) (v.temperature k) (ahead p n (v.temperature n) (k - n)) ≡ entry p k
-  heated_course k =
-      ⊎_elim
-      (λ (l : n < k). let e : n + (k - n) ≡ k = omega arith in
-      cond-false (leb k n) _ _ (lt-leb k n l) ∙ (ap (λ t. ahead p n t (k - n)) (h.course n (omega arith)) ∙ (sym (ahead_on p 20000 n (k - n)) ∙ ap (entry p) e)))
-      (λ (l : k ≤ n). cond-true (leb k n) _ _ (le-leb k n l) ∙ h.course k l) (cases_lt n k)
+  heated_course k = grind (arith, nat_tests, h.course k, h.course n, ahead_on p 20000 n (k - n))
 
   stands : (c : Call) → Stands p (changed p y c) (after v c)
   stands (Heat asked) = record { parts = refl; standing = cc (h.standing, reach_left); load = h.load; course = λ k _. heated_course k }

@@ -1,9 +1,10 @@
 -- Tallies, call by call.
-use Rattle.std.proofs.Common.{◌≡◌, ℕ, ◌+◌, ◌<◌, ◌≤◌, min, Bool, true, false, cond, leb, List, [], ◌∷◌, ◌++◌, sym, refl, ap, ◌∙◌, subst, ⊎_elim, arith}
-use Rattle.std.proofs.lemmas.Bool.{cases_lt, cond_both, cond-false, cond-true, le-leb, lt-leb}
+use Rattle.std.proofs.Common.{◌≡◌, ℕ, ◌+◌, ◌≤◌, min, Bool, true, false, cond, leb, List, [], ◌∷◌, ◌++◌, None, Option, sym, refl, ap, subst, arith}
+use Rattle.std.proofs.lemmas.Bool.{cond_both}
+use Rattle.std.proofs.lemmas.Bool.Decides.{nat_tests}
 use Rattle.member_check.proofs.Falling.{passes_unloaded}
 use Rattle.trial.specs.Parts.{Parts}
-use Rattle.trial.specs.Course.{end, end_stop, entry}
+use Rattle.trial.specs.Course.{end, end_cause, entry}
 use Rattle.trial.specs.Answers.{can_go_back, carried_cold, judged, told}
 use Rattle.trial.specs.Tally.{Tally, accepted, noted, remaining, counted, answer, tallied, answered, start, tally}
 use Rattle.trial.specs.declared.call.Answer.TheVariants.{Heated}
@@ -13,6 +14,7 @@ use Rattle.trial.specs.declared.call.Question.{Question}
 use Rattle.trial.specs.declared.call.Question.TheVariants.{Standing, TemperatureAt, Hottest, CriticalTemperature, FirstFailing}
 use Rattle.trial.specs.declared.refusal.Refusal.{Refusal}
 use Rattle.trial.specs.declared.refusal.Refusal.TheVariants.{BackBeyondStart, NotCarriedCold}
+use Rattle.trial.specs.declared.stop.Stop.{Stop}
 
 -- the tally after a call, by the call alone
 abbrev pub changed : Parts → Tally → Call → Tally
@@ -21,11 +23,8 @@ changed p y (Back steps) = cond (can_go_back y.count steps) (accepted y (Back st
 changed p y (Load load) = cond (carried_cold p load) (accepted y (Load load)) y
 changed p y (Ask q) = y
 
-noted_heat : (y : Tally) (asked left stop : ℕ) → noted y (Heat asked) (cond (leb asked left) (Heated asked 0) (Heated left stop)) ≡ record { count = y.count + min asked left; load = y.load }
-noted_heat y asked left stop =
-    ⊎_elim (λ (l : left < asked). ap (noted y (Heat asked)) (cond-false (leb asked left) _ _ (lt-leb _ _ l)) ∙ ap (λ n. record { count = y.count + n; load = y.load }) (omega arith))
-    (λ (l : asked ≤ left). ap (noted y (Heat asked)) (cond-true (leb asked left) _ _ (le-leb _ _ l)) ∙ ap (λ n. record { count = y.count + n; load = y.load }) (omega arith))
-    (cases_lt left asked)
+noted_heat : (y : Tally) (asked left : ℕ) (stop : Option Stop) → noted y (Heat asked) (cond (leb asked left) (Heated asked None) (Heated left stop)) ≡ record { count = y.count + min asked left; load = y.load }
+noted_heat y asked left stop = grind (arith, nat_tests)
 
 noted_judged : (y : Tally) (c : Call) (good : Bool) (r : Refusal) → noted y c (judged good r) ≡ cond good (accepted y c) y
 noted_judged y c true r = refl
@@ -39,7 +38,7 @@ noted_told y c p load n t CriticalTemperature = refl
 noted_told y c p load n t FirstFailing = refl
 
 pub counted_is : (p : Parts) (y : Tally) (c : Call) → counted p y c ≡ changed p y c
-counted_is p y (Heat asked) = noted_heat y asked (remaining p y) (end_stop p)
+counted_is p y (Heat asked) = noted_heat y asked (remaining p y) (end_cause p)
 counted_is p y (Back steps) = noted_judged y (Back steps) (can_go_back y.count steps) BackBeyondStart
 counted_is p y (Load load) = noted_judged y (Load load) (carried_cold p load) NotCarriedCold
 counted_is p y (Ask q) = noted_told y (Ask q) p y.load y.count (entry p) q

@@ -1,10 +1,10 @@
 -- What is answered, from the parts, a load, and the temperatures of the steps 0 to n. No sheet is named here.
-use Rattle.std.specs.Prelude.{ℕ, Bool, cond, nat_le}
+use Rattle.std.specs.Prelude.{ℕ, Bool, cond, Ok, Err, nat_le}
 use Rattle.member_check.specs.Check.{critical_of, passes_at}
 use Rattle.trial.specs.Parts.{Parts}
 use Rattle.trial.specs.Questions.{temperature_at, hottest, first_failing}
 use Rattle.trial.specs.declared.call.Answer.{Answer}
-use Rattle.trial.specs.declared.call.Answer.TheVariants.{Accepted, Refused as Denied, Standing as Steps, Temperature, Hottest as Highest, CriticalTemperature as Critical, FirstFailing as Failing}
+use Rattle.trial.specs.declared.call.Answer.TheVariants.{Done, Standing as Steps, Temperature, Hottest as Highest, CriticalTemperature as Critical, FirstFailing as Failing}
 use Rattle.trial.specs.declared.call.Question.{Question}
 use Rattle.trial.specs.declared.call.Question.TheVariants.{Standing, TemperatureAt, Hottest, CriticalTemperature, FirstFailing}
 use Rattle.trial.specs.declared.refusal.Refusal.{Refusal}
@@ -31,4 +31,4 @@ told p load n t FirstFailing = Failing (first_failing p load t n)
 
 -- accepted, or refused for a cause
 abbrev pub judged : Bool → Refusal → Answer
-judged good r = cond good Accepted (Denied r)
+judged good r = Done (cond good (Ok tt) (Err r))

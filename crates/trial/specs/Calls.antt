@@ -1,19 +1,18 @@
 -- What each call answers and does, in whatever state a sheet is.
-use Rattle.std.specs.Prelude.{ℕ, ◌+◌, ◌-◌, ◌/◌, cond, [], Some, None, Ok, Err, Option, Result, nat_le}
-use Rattle.fires.specs.declared.meaning.Reading.{Reading}
+use Rattle.std.specs.Prelude.{ℕ, ◌+◌, ◌-◌, ◌/◌, cond, [], Some, None, Option, nat_le}
+use Rattle.fires.specs.Meaning.{Reading}
 use Rattle.trial.specs.Parts.{Parts}
 use Rattle.trial.specs.Refusal.{Refused}
 use Rattle.trial.specs.Questions.{temperature_at, hottest, first_failing}
 use Rattle.trial.specs.Heating.{stepped, stop_of}
-use Rattle.trial.specs.Course.{ahead, made_ahead, stopped_ahead}
+use Rattle.trial.specs.Course.{ahead, made_ahead, stop_code, stopped_ahead}
 use Rattle.trial.specs.Answers.{can_go_back, carried_cold, critical_under, judged, told}
 use Rattle.trial.specs.Views.{View, last_of}
 use Rattle.trial.specs.declared.call.Answer.{Answer}
-use Rattle.trial.specs.declared.call.Answer.TheVariants.{Heated, Accepted, Refused as Denied}
+use Rattle.trial.specs.declared.call.Answer.TheVariants.{Heated}
 use Rattle.trial.specs.declared.call.Call.{Call}
 use Rattle.trial.specs.declared.call.Call.TheVariants.{Heat, Back, Load, Ask}
 use Rattle.trial.specs.declared.call.Question.{Question}
-use Rattle.trial.specs.declared.refusal.Refusal.{Refusal}
 use Rattle.trial.specs.declared.refusal.Refusal.TheVariants.{NotCarriedCold, BackBeyondStart}
 use Rattle.trial.specs.declared.stop.Stop.{Stop}
 
@@ -46,11 +45,6 @@ next_stop v = stop_of v.parts v.standing (last_of v)
 abbrev pub next_end : View → ℕ
 next_end v = stepped v.parts v.standing (last_of v)
 
--- a result as an answer
-abbrev pub outcome_of : Result (Unit {0}) Refusal → Answer
-outcome_of (Ok x) = Accepted
-outcome_of (Err e) = Denied e
-
 -- the refusal that a back and a load meet, if any
 abbrev pub back_fault : ℕ → ℕ → Option Refused
 back_fault standing steps = cond (can_go_back standing steps) None (Some (12, []))
@@ -58,16 +52,22 @@ back_fault standing steps = cond (can_go_back standing steps) None (Some (12, []
 abbrev pub load_fault : Parts → ℕ → Option Refused
 load_fault p load = cond (carried_cold p load) None (Some (11, []))
 
--- how many steps a heat makes, and the number of what stops the next, 0 if all are made: the course goes on from the last standing step
+-- how many steps a heat makes, and what stops the next, if anything: the course goes on from the last standing step
+abbrev pub heat_made : View → ℕ → ℕ
+heat_made v asked = made_ahead v.parts v.standing (last_of v) asked
+
+abbrev pub heat_stop : View → ℕ → Option Stop
+heat_stop v asked = stopped_ahead v.parts v.standing (last_of v) asked
+
+-- the same as numbers, the stop's being 0 if all are made
 abbrev pub heat_answer : View → ℕ → ℕ × ℕ
-heat_answer v asked =
-    (made_ahead v.parts v.standing (last_of v) asked, stopped_ahead v.parts v.standing (last_of v) asked)
+heat_answer v asked = (heat_made v asked, stop_code (heat_stop v asked))
 
 abbrev pub after_heat : View → ℕ → View
 after_heat v asked = record {
   parts = v.parts;
   load = v.load;
-  standing = v.standing + (heat_answer v asked).0;
+  standing = v.standing + heat_made v asked;
   temperature = λ k. cond (nat_le k v.standing) (v.temperature k) (ahead v.parts v.standing (last_of v) (k - v.standing));
 }
 
@@ -79,7 +79,7 @@ after_load v load = record { parts = v.parts; load = load; standing = v.standing
 
 -- the answer to a call
 abbrev pub reply : View → Call → Answer
-reply v (Heat asked) = Heated (heat_answer v asked).0 (heat_answer v asked).1
+reply v (Heat asked) = Heated (heat_made v asked) (heat_stop v asked)
 reply v (Back steps) = judged (can_go_back v.standing steps) BackBeyondStart
 reply v (Load load) = judged (carried_cold v.parts load) NotCarriedCold
 reply v (Ask q) = told_by v q

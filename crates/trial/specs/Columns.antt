@@ -1,11 +1,12 @@
 -- The steps that a column holds.
-use Rattle.std.specs.Prelude.{ℕ, slice_index}
+use Rattle.std.specs.Prelude.{ℕ, ◌-◌, slice_index}
+use Rattle.arrayvec.specs.ArrayVec.{array_vec_len}
 use Rattle.trial.specs.declared.column.Column.{Column}
 
 -- how many steps stand, step 0 not counted
 abbrev pub steps_of : Column → ℕ
-steps_of c = c.standing
+steps_of c = array_vec_len c.temperatures - 1
 
 -- the temperature of a step, in millidegrees
 abbrev pub temperature_of : Column → ℕ → ℕ
-temperature_of c k = slice_index c.temperatures k
+temperature_of c k = slice_index c.temperatures.items k

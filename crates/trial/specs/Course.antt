@@ -25,12 +25,12 @@ abbrev pub stop_code : Option Stop → ℕ
 stop_code None = 0
 stop_code (Some s) = stop_number s
 
--- of steps asked for, how many are made; and the number of what stopped the next, 0 if all are made
+-- of steps asked for, how many are made; and what stopped the next, nothing if all are made
 abbrev pub made_ahead : Parts → ℕ → ℕ → ℕ → ℕ
 made_ahead p n t asked = min asked (reach p n t)
 
-abbrev pub stopped_ahead : Parts → ℕ → ℕ → ℕ → ℕ
-stopped_ahead p n t asked = cond (nat_le asked (reach p n t)) 0 (stop_code (stop_ahead p n t (reach p n t)))
+abbrev pub stopped_ahead : Parts → ℕ → ℕ → ℕ → Option Stop
+stopped_ahead p n t asked = cond (nat_le asked (reach p n t)) None (stop_ahead p n t (reach p n t))
 
 -- the course itself starts at step 0 at 20,000 millidegrees
 abbrev pub entry : Parts → ℕ → ℕ
@@ -39,5 +39,9 @@ entry p k = ahead p 0 20000 k
 abbrev pub end : Parts → ℕ
 end p = reach p 0 20000
 
+-- what stops it at its end, and the number of that
+abbrev pub end_cause : Parts → Option Stop
+end_cause p = stop_ahead p 0 20000 (end p)
+
 abbrev pub end_stop : Parts → ℕ
-end_stop p = stop_code (stop_ahead p 0 20000 (end p))
+end_stop p = stop_code (end_cause p)

@@ -1,9 +1,10 @@
 -- One step of heating (EN 1993-1-2, 4.2.5.1), and what stops it.
-use Rattle.std.specs.Prelude.{ℕ, ◌*◌, ◌/◌, max, Bool, true, false, cond, ℤ, pos, negsuc, ◌+ℤ◌, ◌*ℤ◌, Some, None, Option, nat_le, nat_lt}
+use Rattle.std.specs.Prelude.{ℕ, ◌*◌, ◌/◌, max, Bool, true, false, cond, ℤ, pos, negsuc, ◌+ℤ◌, ◌*ℤ◌, Some, None, Option, Ok, Err, nat_le, nat_lt}
 use Rattle.rounding.specs.Quotient.{rounded_up}
 use Rattle.member_check.specs.declared.input.Figures.{Figures}
-use Rattle.fires.specs.declared.meaning.Reading.{Reading}
-use Rattle.fires.specs.declared.meaning.Reading.TheVariants.{Flux, Missing, Ended}
+use Rattle.fires.specs.Meaning.{Reading}
+use Rattle.fires.specs.declared.meaning.NoFlux.{NoFlux}
+use Rattle.fires.specs.declared.meaning.NoFlux.TheVariants.{Missing, Ended}
 use Rattle.trial.specs.Parts.{Parts}
 use Rattle.trial.specs.declared.stop.Stop.{Stop}
 use Rattle.trial.specs.declared.stop.Stop.TheVariants.{SheetFull, FireEnded, NoReading, TooHot}
@@ -24,23 +25,27 @@ heated f c q t = at_least 20000 (pos t +ℤ rise f c q)
 
 -- the same by what the fire told: the heat capacity is that of t's degree, rounded down; without a flux nothing changes
 abbrev pub heated_by : Parts → ℕ → Reading → ℕ
-heated_by p t (Flux q) = heated p.figures (p.capacity (t / 1000)) q t
-heated_by p t Missing = t
-heated_by p t Ended = t
+heated_by p t (Ok q) = heated p.figures (p.capacity (t / 1000)) q t
+heated_by p t (Err e) = t
 
 -- the step rule: what becomes of t in the step whose number is k, the count of steps then standing
 abbrev pub stepped : Parts → ℕ → ℕ → ℕ
 stepped p k t = heated_by p t (p.tells k t)
 
 abbrev pub is_ended : Reading → Bool
-is_ended Ended = true
-is_ended Missing = false
-is_ended (Flux q) = false
+is_ended (Err Ended) = true
+is_ended (Err Missing) = false
+is_ended (Ok q) = false
 
 abbrev pub is_missing : Reading → Bool
-is_missing Missing = true
-is_missing Ended = false
-is_missing (Flux q) = false
+is_missing (Err Missing) = true
+is_missing (Err Ended) = false
+is_missing (Ok q) = false
+
+-- the stop where a fire tells no flux
+abbrev pub unheated : NoFlux → Stop
+unheated Missing = NoReading
+unheated Ended = FireEnded
 
 -- the cause of each stop, for a step from t with k steps standing
 abbrev pub cause : Parts → ℕ → ℕ → Stop → Bool

@@ -1,10 +1,10 @@
 -- The tally of a list of calls: a count and a load, kept without a sheet from the parts' meaning and the calls alone.
-use Rattle.std.specs.Prelude.{ℕ, ◌+◌, ◌-◌, cond, List, [], ◌∷◌, nat_le}
+use Rattle.std.specs.Prelude.{ℕ, ◌+◌, ◌-◌, cond, List, [], ◌∷◌, None, Ok, Err, nat_le}
 use Rattle.trial.specs.Parts.{Parts}
-use Rattle.trial.specs.Course.{end, end_stop, entry}
+use Rattle.trial.specs.Course.{end, end_cause, entry}
 use Rattle.trial.specs.Answers.{can_go_back, carried_cold, judged, told}
 use Rattle.trial.specs.declared.call.Answer.{Answer}
-use Rattle.trial.specs.declared.call.Answer.TheVariants.{Heated, Accepted, Refused as Denied, Standing as Steps, Temperature, Hottest as Highest, CriticalTemperature as Critical, FirstFailing as Failing}
+use Rattle.trial.specs.declared.call.Answer.TheVariants.{Heated, Done, Standing as Steps, Temperature, Hottest as Highest, CriticalTemperature as Critical, FirstFailing as Failing}
 use Rattle.trial.specs.declared.call.Call.{Call}
 use Rattle.trial.specs.declared.call.Call.TheVariants.{Heat, Back, Load, Ask}
 use Rattle.trial.specs.declared.refusal.Refusal.TheVariants.{NotCarriedCold, BackBeyondStart}
@@ -20,7 +20,7 @@ remaining p y = end p - y.count
 -- what the tally answers: a heat makes what is asked, or what is remaining if that is less; questions are answered from the course up to the
 -- count and from the check at the load
 abbrev pub answer : Parts → Tally → Call → Answer
-answer p y (Heat asked) = cond (nat_le asked (remaining p y)) (Heated asked 0) (Heated (remaining p y) (end_stop p))
+answer p y (Heat asked) = cond (nat_le asked (remaining p y)) (Heated asked None) (Heated (remaining p y) (end_cause p))
 answer p y (Back steps) = judged (can_go_back y.count steps) BackBeyondStart
 answer p y (Load load) = judged (carried_cold p load) NotCarriedCold
 answer p y (Ask q) = told p y.load y.count (entry p) q
@@ -36,8 +36,8 @@ accepted y (Ask q) = y
 -- changes nothing
 abbrev pub noted : Tally → Call → Answer → Tally
 noted y c (Heated made stop) = record { count = y.count + made; load = y.load }
-noted y c Accepted = accepted y c
-noted y c (Denied refusal) = y
+noted y c (Done (Ok x)) = accepted y c
+noted y c (Done (Err refusal)) = y
 noted y c (Steps n) = y
 noted y c (Temperature t) = y
 noted y c (Highest t) = y

@@ -1,6 +1,7 @@
 -- A sheet as contracts see it.
 use Rattle.std.specs.Prelude.{◌≡◌, ℕ, ◌≤◌}
 use Rattle.steels.specs.declared.meaning.Steel as steel
+use Rattle.steels.specs.declared.table.Reduction.TheVariants.{Stiffness, Strength}
 use Rattle.fires.specs.declared.meaning.Fire as fire
 use Rattle.member_check.specs.Members.{figures_of}
 use Rattle.member_check.specs.declared.checked.Member.{Member}
@@ -18,8 +19,8 @@ pub record View : Type 0 where
 abbrev pub parts_of : {S F : Type 0} → steel.Ghosts S → fire.Ghosts F → Member → S → F → Parts
 parts_of s f member its_steel its_fire = record {
   figures = figures_of member;
-  strength = s.strength its_steel;
-  stiffness = s.stiffness its_steel;
+  strength = s.factor its_steel Strength;
+  stiffness = s.factor its_steel Stiffness;
   capacity = s.capacity its_steel;
   tells = f.tells its_fire;
 }

@@ -1,8 +1,9 @@
 // Calls of a sheet and their answers, as values.
 use crate::refusal::Refusal;
+use crate::stop::Stop;
 
 // Questions change nothing. A step is asked for by its number.
-#[derive(Clone, Copy)]
+#[derive(Clone, Copy, PartialEq, Eq, Debug)]
 pub enum Question {
     Standing,
     TemperatureAt(usize),
@@ -11,7 +12,7 @@ pub enum Question {
     FirstFailing,
 }
 
-#[derive(Clone, Copy)]
+#[derive(Clone, Copy, PartialEq, Eq, Debug)]
 pub enum Call {
     Heat(usize),
     Back(usize),
@@ -20,12 +21,12 @@ pub enum Call {
 }
 
 // Temperatures of steps are in millidegrees, the critical one in degrees.
-#[derive(Clone, Copy)]
+#[derive(Clone, Copy, PartialEq, Eq, Debug)]
 pub enum Answer {
-    // how many steps were made, and the number of what stopped the next, 0 if all were made
-    Heated(usize, u32),
-    Accepted,
-    Refused(Refusal),
+    // how many steps were made, and what stopped the next, if anything
+    Heated { made: usize, stop: Option<Stop> },
+    // a back or a load: accepted, or refused
+    Done(Result<(), Refusal>),
     Standing(usize),
     Temperature(Option<u32>),
     Hottest(u32),

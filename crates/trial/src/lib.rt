@@ -12,3 +12,4 @@ pub use call::{Answer, Call, Question};
 pub use log::{Logged, run};
 pub use refusal::Refusal;
 pub use sheet::Sheet;
+pub use stop::Stop;

@@ -12,7 +12,7 @@ use member_check::Member;
 use steels::Steel;
 
 // A call, and its answer once it is made.
-#[derive(Clone, Copy)]
+#[derive(Clone, Copy, PartialEq, Eq, Debug)]
 pub struct Logged {
     pub call: Call,
     pub answer: Option<Answer>,
@@ -25,8 +25,8 @@ fn log_calls<S: Steel, F: Fire>(sheet: &mut Sheet<S, F>, log: &mut [Logged])
     ensures answers { answers_of log.new ≡ map Some (answers_to (view_of S.Steel F.Fire sheet.old).parts (calls_of log.old)) }
     ensures law { Law (view_of S.Steel F.Fire sheet.old).parts (calls_of log.old) (view_of S.Steel F.Fire sheet.new) }
 {
-    for place in 0..log.len() {
-        log[place].answer = Some(sheet.call(log[place].call));
+    for logged in log {
+        logged.answer = Some(sheet.call(logged.call));
     }
 }
 

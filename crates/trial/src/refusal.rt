@@ -2,20 +2,21 @@
 ghost use Rattle.std.specs.Prelude.{◌≡◌};
 ghost use Rattle.trial.specs.Refusal.{refused};
 
+use thiserror::Error;
+
 // A load that the member does not carry at 20 degrees, or more steps to take back than stand.
-#[derive(Clone, Copy, PartialEq, Eq, Debug)]
+#[derive(Clone, Copy, PartialEq, Eq, Debug, Error)]
 pub enum Refusal {
-    NotCarriedCold,
-    BackBeyondStart,
+    #[error("the member does not carry it cold")]
+    NotCarriedCold = 11,
+    #[error("fewer steps stand")]
+    BackBeyondStart = 12,
 }
 
 impl Refusal {
     pub fn number(&self) -> u32
         ensures { result ≡ (refused self.now).0 }
     {
-        match self {
-            Refusal::NotCarriedCold => 11,
-            Refusal::BackBeyondStart => 12,
-        }
+        *self as u32
     }
 }

@@ -1,4 +1,5 @@
-// One member in a fire.
+// One member in a fire. A public call with the law on its contract hands on to an inner function, so that a wrong edit in the work itself is
+// refused by a fact of the code and not at the proof of the law.
 mod calling;
 mod heating;
 mod keeping;

@@ -1,25 +1,39 @@
 // The causes that stop a step.
 ghost use Rattle.std.specs.Prelude.{◌≡◌};
+ghost use Rattle.trial.specs.Heating.{unheated};
 ghost use Rattle.trial.specs.Refusal.{stop_number};
 
+use fires::NoFlux;
+use thiserror::Error;
+
 // 4,096 steps stand, the fire has ended, it has no reading, or the step would end above 1,200 degrees.
-#[derive(Clone, Copy)]
+#[derive(Clone, Copy, PartialEq, Eq, Debug, Error)]
 pub enum Stop {
-    SheetFull,
-    FireEnded,
-    NoReading,
-    TooHot,
+    #[error("all 4096 steps stand")]
+    SheetFull = 13,
+    #[error("the fire has ended")]
+    FireEnded = 14,
+    #[error("the fire has no reading")]
+    NoReading = 15,
+    #[error("the step would end above 1200 degrees")]
+    TooHot = 16,
 }
 
 impl Stop {
     pub fn number(&self) -> u32
         ensures { result ≡ stop_number self.now }
     {
-        match self {
-            Stop::SheetFull => 13,
-            Stop::FireEnded => 14,
-            Stop::NoReading => 15,
-            Stop::TooHot => 16,
+        *self as u32
+    }
+}
+
+impl From<NoFlux> for Stop {
+    ghost from_gives = { λ reason stop. stop ≡ unheated reason };
+
+    fn from(reason: NoFlux) -> Stop {
+        match reason {
+            NoFlux::Missing => Stop::NoReading,
+            NoFlux::Ended => Stop::FireEnded,
         }
     }
 }

@@ -1,19 +1,19 @@
 // A gas curve: handed in as whole gas temperatures, and asked as a fire (EN 1991-1-2, with emissivity 0.7 and 25 W/(m² K)).
-ghost use Rattle.std.specs.Prelude.{◌≡◌, ◌+◌, ◌^◌, ◌<◌, false, ◌&&◌, [], length, pos, ◌*ℤ◌, neg_ℤ, ◌≤ℤ◌, is_some, is_ok, OnOk, nat_le};
+ghost use Rattle.std.specs.Prelude.{◌≡◌, ◌+◌, ◌^◌, false, [], length, pos, ◌*ℤ◌, is_ok, IfOk, OnOk, not};
+ghost use Rattle.std.specs.List.{position};
 ghost use Rattle.std.specs.Option.{option_map};
 ghost use Rattle.std.specs.Result.{result_err};
-ghost use Rattle.fires.specs.Gas.{GasDegree, gas_fault, gas_flux, gas_tells, outside_from, steel_degree, temperatures_of};
+ghost use Rattle.fires.specs.Gas.{gas_fault, gas_flux, gas_tells, steel_degree, temperatures_of};
+ghost use Rattle.fires.specs.GasDegrees.{is_gas_degree};
+ghost use Rattle.fires.specs.Meaning.{Within};
 ghost use Rattle.fires.specs.Refusal.{refused};
 ghost use Rattle.rounding.specs.Quotient.{rounded_up};
-ghost use Rattle.std.proofs.Common.{arith};
-ghost use Rattle.std.proofs.lemmas.List.{get_or-take, length-take};
 ghost use Rattle.fires.specs.GasLaws.{gas_answers};
 
-use crate::gas::GasCurve;
-use crate::meaning::{Fire, Reading};
+use crate::gas::{Degree, GasCurve, MOST_STEPS};
+use crate::meaning::{Fire, NoFlux};
 use crate::refusal::Refusal;
-
-const MOST_STEPS: usize = 4096;
+use arrayvec::ArrayVec;
 
 impl GasCurve {
     // A curve with no steps.
@@ -21,8 +21,7 @@ impl GasCurve {
         ensures { temperatures_of result ≡ [] }
     {
         GasCurve {
-            store: [20; 4096],
-            count: 0,
+            temperatures: ArrayVec::new(),
         }
     }
 
@@ -32,84 +31,67 @@ impl GasCurve {
         ensures taken { OnOk result (temperatures_of self.new ≡ temperatures.now) }
         ensures kept { is_ok result ≡ false → self.new ≡ self.old }
     {
-        if let Some(refusal) = fault(temperatures) {
-            return Err(refusal);
-        }
-        *self = holding(temperatures);
+        *self = curve_of(temperatures)?;
         Ok(())
     }
 }
 
-// Why the temperatures are refused, if they are: their number comes first.
-fn fault(temperatures: &[u32]) -> Option<Refusal>
-    ensures { option_map refused result ≡ gas_fault temperatures.now }
+// The curve of the temperatures, or why they make none: their number comes first.
+fn curve_of(given: &[u32]) -> Result<GasCurve, Refusal>
+    ensures fault { option_map refused (result_err result) ≡ gas_fault given.now }
+    ensures taken { IfOk result (λ curve. temperatures_of curve ≡ given.now) }
 {
-    if temperatures.len() > MOST_STEPS {
-        return Some(Refusal::GasTemperature { step: MOST_STEPS });
+    let Ok(temperatures) = ArrayVec::try_from(given) else {
+        return Err(Refusal::GasTemperature { step: MOST_STEPS });
+    };
+    match first_outside(given) {
+        Some(step) => Err(Refusal::GasTemperature { step }),
+        None => Ok(GasCurve { temperatures }),
     }
-    first_outside(temperatures)
 }
 
 // The first step whose temperature lies outside 20 to 1,200.
-fn first_outside(temperatures: &[u32]) -> Option<Refusal>
-    ensures { option_map refused result ≡ outside_from 0 temperatures.now }
+fn first_outside(temperatures: &[u32]) -> Option<usize>
+    ensures { result ≡ position (λ gas. not (is_gas_degree gas)) temperatures.now }
 {
-    for (step, gas) in temperatures.iter().enumerate() {
-        if !is_gas_degree(*gas) {
-            return Some(Refusal::GasTemperature { step });
-        }
+    temperatures
+        .iter()
+        .position(|gas| !(20..=1200).contains(gas))
+}
+
+impl Degree {
+    // The fourth power of the absolute temperature.
+    fn fourth_power(self) -> i64
+        ensures { result ≡ pos ((self.whole + 273) ^ 4) }
+    {
+        i64::from(self.whole + 273).pow(4)
     }
-    None
-}
-
-fn is_gas_degree(gas: u32) -> bool
-    ensures { result ≡ (nat_le 20 gas && nat_le gas 1200) }
-{
-    20 <= gas && gas <= 1200
-}
-
-// The curve of temperatures that have no fault.
-fn holding(temperatures: &[u32]) -> GasCurve
-    requires { is_some (gas_fault temperatures.now) ≡ false }
-    ensures { temperatures_of result ≡ temperatures.now }
-{
-    let mut curve = GasCurve::new();
-    curve.store[0..temperatures.len()].copy_from_slice(temperatures);
-    curve.count = temperatures.len();
-    curve
-}
-
-// The fourth power of the absolute temperature.
-fn fourth_power(degree: u32) -> i64
-    requires { GasDegree degree }
-    ensures { result ≡ pos ((degree + 273) ^ 4) }
-{
-    ((degree + 273) as u64).pow(4) as i64
 }
 
 // What a difference of fourth powers radiates, rounded up. None is above that of 1,200 degrees.
 fn radiation(powers: i64) -> i64
-    requires { (neg_ℤ (pos (1473 ^ 4)) ≤ℤ powers) × (powers ≤ℤ pos (1473 ^ 4)) }
+    requires { Within (1473 ^ 4) powers }
     ensures { result ≡ rounded_up (pos 3969 *ℤ powers) 100_000_000_000 }
 {
     rounding::rounded_up(3969 * powers, 100_000_000_000)
 }
 
 // Convection and radiation together.
-fn net_flux(gas: u32, steel: u32) -> i32
-    requires { (GasDegree gas) × (GasDegree steel) }
-    ensures { result ≡ gas_flux gas steel }
+fn net_flux(gas: Degree, steel: Degree) -> i32
+    ensures { result ≡ gas_flux gas.whole steel.whole }
 {
-    let convection = 25 * (gas as i64 - steel as i64);
-    let powers = fourth_power(gas) - fourth_power(steel);
+    let convection = 25 * (i64::from(gas.whole) - i64::from(steel.whole));
+    let powers = gas.fourth_power() - steel.fourth_power();
     (convection + radiation(powers)) as i32
 }
 
 // The steel's whole degree, rounded down.
-fn steel_degree(temperature: u32) -> u32
-    ensures { result ≡ steel_degree temperature }
+fn steel_degree(temperature: u32) -> Degree
+    ensures { result.whole ≡ steel_degree temperature }
 {
-    temperature.clamp(20_000, 1_200_000) / 1000
+    Degree {
+        whole: temperature.clamp(20_000, 1_200_000) / 1000,
+    }
 }
 
 impl Fire for GasCurve {
@@ -117,18 +99,14 @@ impl Fire for GasCurve {
 
     ghost tells = { λ c. gas_tells (temperatures_of c) };
 
-    ghost answers = { λ f.
-        gas_answers (temperatures_of f)
-        (λ k h. let l : k < f.count = omega (arith, length-take f.count f.store) in rw get_or-take (f.least k l, f.most k l)) };
+    ghost answers = { λ f. gas_answers (temperatures_of f) f.degrees };
 
     fn step_count(&self) -> usize {
-        self.count
+        self.temperatures.len()
     }
 
-    fn reading_at(&self, step: usize, temperature: u32) -> Reading {
-        if step >= self.count {
-            return Reading::Ended;
-        }
-        Reading::Flux(net_flux(self.store[step], steel_degree(temperature)))
+    fn reading_at(&self, step: usize, temperature: u32) -> Result<i32, NoFlux> {
+        let gas = self.temperatures.get(step).ok_or(NoFlux::Ended)?;
+        Ok(net_flux(Degree { whole: *gas }, steel_degree(temperature)))
     }
 }

@@ -6,7 +6,7 @@ ghost use Rattle.fires.specs.Refusal.{refused};
 ghost use Rattle.fires.specs.Shaded.{fire_below, shaded_reading, shading_fault, shading_of, thousandths_of};
 ghost use Rattle.fires.specs.ShadedLaws.{shaded_answers};
 
-use crate::meaning::{Fire, Reading};
+use crate::meaning::{Fire, NoFlux};
 use crate::refusal::Refusal;
 use crate::shading::Shading;
 
@@ -48,13 +48,9 @@ impl<F: Fire> Fire for Shaded<F> {
         self.below.step_count()
     }
 
-    fn reading_at(&self, step: usize, temperature: u32) -> Reading {
-        match self.below.reading_at(step, temperature) {
-            Reading::Flux(flux) => {
-                let thousandths = self.shading.thousandths as i64;
-                Reading::Flux(rounding::rounded_up(flux as i64 * thousandths, 1000) as i32)
-            }
-            other => other,
-        }
+    fn reading_at(&self, step: usize, temperature: u32) -> Result<i32, NoFlux> {
+        let flux = self.below.reading_at(step, temperature)?;
+        let part = i64::from(flux) * i64::from(self.shading.thousandths);
+        Ok(rounding::rounded_up(part, 1000) as i32)
     }
 }

@@ -9,16 +9,17 @@ ghost use Rattle.std.proofs.Common.{rules};
 use crate::cap::Cap;
 use crate::meaning::Steel;
 use crate::refusal::Refusal;
+use crate::table::Reduction;
 
 impl Cap {
     pub fn new(degree: u32) -> Result<Cap, Refusal>
         ensures fault { option_map refused (result_err result) ≡ cap_fault degree }
         ensures taken { IfOk result (λ cap. cap_degree cap ≡ degree) }
     {
-        if degree < 21 || degree > 1200 {
-            return Err(Refusal::CapDegree);
+        match degree {
+            21..=1200 => Ok(Cap { degree }),
+            _ => Err(Refusal::CapDegree),
         }
-        Ok(Cap { degree })
     }
 }
 
@@ -38,29 +39,17 @@ impl<S> Capped<S> {
 }
 
 impl<S: Steel> Steel for Capped<S> {
-    ghost strength = { λ s. capped_factor (cap_degree (cap_of s)) (S.Steel.strength (steel_below s)) };
-
-    ghost stiffness = { λ s. capped_factor (cap_degree (cap_of s)) (S.Steel.stiffness (steel_below s)) };
+    ghost factor = { λ s r. capped_factor (cap_degree (cap_of s)) (S.Steel.factor (steel_below s) r) };
 
     ghost capacity = { λ s. S.Steel.capacity (steel_below s) };
 
-    ghost strength_law = { Prim.search rules };
-
-    ghost stiffness_law = { Prim.search rules };
+    ghost factor_law = { Prim.search rules };
 
     ghost capacity_law = { Prim.search rules };
 
-    fn strength_at(&self, degree: u32) -> u32 {
+    fn factor_at(&self, reduction: Reduction, degree: u32) -> u32 {
         if degree < self.cap.degree {
-            self.below.strength_at(degree)
-        } else {
-            0
-        }
-    }
-
-    fn stiffness_at(&self, degree: u32) -> u32 {
-        if degree < self.cap.degree {
-            self.below.stiffness_at(degree)
+            self.below.factor_at(reduction, degree)
         } else {
             0
         }

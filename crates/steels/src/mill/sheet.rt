@@ -1,23 +1,23 @@
 // Mill sheets: points handed in are tried first and taken whole, or refused and nothing is changed.
-ghost use Rattle.std.specs.Prelude.{◌≡◌, ◌≤◌, false, ◌&&◌, map, length, take, is_some, is_ok, None, OnOk};
+ghost use Rattle.std.specs.Prelude.{◌≡◌, false, ◌&&◌, map, is_some, is_ok, OnOk};
 ghost use Rattle.std.specs.Option.{option_map};
 ghost use Rattle.std.specs.Result.{result_err};
 ghost use Rattle.steels.specs.Mill.{Follows, capacity_from, degree_fits, falls, first_points, full_point, in_range, point_fault, row_of, sheet_capacity, sheet_factor, sheet_fault};
 ghost use Rattle.steels.specs.Refusal.{refused};
 ghost use Rattle.steels.specs.MillStore.{points_of};
 ghost use Rattle.steels.specs.Table.{Sound};
-ghost use Rattle.steels.specs.declared.table.Column.TheVariants.{Stiffness, Strength};
 ghost use Rattle.steels.specs.Points.{sheet_factor_law, sheet_capacity_law};
 
 use crate::meaning::Steel;
 use crate::mill::MillSheet;
 use crate::point::Point;
 use crate::refusal::Refusal;
-use crate::table::{Column, clamp, factor_at};
+use crate::table::{Reduction, clamp, factor_at};
+use arrayvec::ArrayVec;
 
 impl Point {
     // Of such points a sheet is made before any are read.
-    const fn full(degree: u32) -> Point
+    fn full(degree: u32) -> Point
         ensures { result ≡ full_point degree }
     {
         Point {
@@ -31,10 +31,7 @@ impl Point {
     fn degree_fits(&self, before: Option<Point>, last: bool) -> bool
         ensures { result ≡ degree_fits before self.now last }
     {
-        let rises = match before {
-            None => self.degree == 20,
-            Some(point) => point.degree < self.degree,
-        };
+        let rises = before.map_or(self.degree == 20, |point| point.degree < self.degree);
         rises && (!last || self.degree == 1200)
     }
 
@@ -43,68 +40,56 @@ impl Point {
     {
         let in_range = self.strength <= 10_000
             && self.stiffness <= 10_000
-            && self.capacity >= 300
-            && self.capacity <= 6000;
+            && (300..=6000).contains(&self.capacity);
         in_range && self.falls_from(before)
     }
 
     fn falls_from(&self, before: Option<Point>) -> bool
         ensures { result ≡ falls before self.now }
     {
-        match before {
-            None => true,
-            Some(point) => self.strength <= point.strength && self.stiffness <= point.stiffness,
-        }
+        before.is_none_or(|point| {
+            self.strength <= point.strength && self.stiffness <= point.stiffness
+        })
     }
 }
 
-// Why the points are refused, if they are: their number comes first.
-fn fault(points: &[Point]) -> Option<Refusal>
-    ensures { option_map refused result ≡ sheet_fault points.now }
+// Tries the points: their number comes first.
+fn try_points(points: &[Point]) -> Result<(), Refusal>
+    ensures { option_map refused (result_err result) ≡ sheet_fault points.now }
 {
-    if points.len() < 2 || points.len() > 64 {
-        return Some(Refusal::PointCount);
+    if !(2..=64).contains(&points.len()) {
+        return Err(Refusal::PointCount);
     }
-    point_fault(points)
+    try_each_point(points)
 }
 
 // The first point at fault decides, and at it the smaller number.
-fn point_fault(points: &[Point]) -> Option<Refusal>
-    ensures { option_map refused result ≡ point_fault 0 None points.now }
+fn try_each_point(points: &[Point]) -> Result<(), Refusal>
+    ensures { option_map refused (result_err result) ≡ point_fault 0 None points.now }
 {
     let mut before = None;
     for (i, point) in points.iter().enumerate() {
         if !point.degree_fits(before, i + 1 == points.len()) {
-            return Some(Refusal::PointDegree { point: i });
+            return Err(Refusal::PointDegree { point: i });
         }
         if !point.figures_fit(before) {
-            return Some(Refusal::PointFigure { point: i });
+            return Err(Refusal::PointFigure { point: i });
         }
         before = Some(*point);
     }
-    None
+    Ok(())
 }
 
-// The store that holds the points; they are without fault.
+// The sheet that holds the points; they are without fault.
+#[tactic(auto, using(crate::specs::Points::follows))]
 fn holding(points: &[Point]) -> MillSheet
     requires { is_some (sheet_fault points.now) ≡ false }
     ensures held { points_of result ≡ points.now }
     ensures meaning { Follows points.now }
 {
     MillSheet {
-        points: stored(points),
-        count: points.len(),
+        points: ArrayVec::try_from(points).unwrap(),
     }
-}
-
-// An array that begins with the points; what follows them is free.
-fn stored(points: &[Point]) -> [Point; 64]
-    requires { length points.now ≤ 64 }
-    ensures { take (length points.now) result ≡ points.now }
-{
-    let mut store = [Point::full(20); 64];
-    store[0..points.len()].copy_from_slice(points);
-    store
 }
 
 impl MillSheet {
@@ -123,9 +108,7 @@ impl MillSheet {
         ensures meaning { OnOk result (Follows points.now) }
         ensures kept { is_ok result ≡ false → self.new ≡ self.old }
     {
-        if let Some(refusal) = fault(points) {
-            return Err(refusal);
-        }
+        try_points(points)?;
         *self = holding(points);
         Ok(())
     }
@@ -155,24 +138,16 @@ fn last_capacity(first: u32, rest: &[Point], degree: u32) -> u32
 }
 
 impl Steel for MillSheet {
-    ghost strength = { λ s. sheet_factor Strength (points_of s) };
-
-    ghost stiffness = { λ s. sheet_factor Stiffness (points_of s) };
+    ghost factor = { λ s r. sheet_factor r (points_of s) };
 
     ghost capacity = { λ s. sheet_capacity (points_of s) };
 
-    ghost strength_law = { λ s. sheet_factor_law Strength (points_of s) s.sound };
-
-    ghost stiffness_law = { λ s. sheet_factor_law Stiffness (points_of s) s.sound };
+    ghost factor_law = { λ s r. sheet_factor_law r (points_of s) s.sound };
 
     ghost capacity_law = { λ s. sheet_capacity_law (points_of s) s.sound };
 
-    fn strength_at(&self, degree: u32) -> u32 {
-        factor_at(Column::Strength, self.in_hand(), degree)
-    }
-
-    fn stiffness_at(&self, degree: u32) -> u32 {
-        factor_at(Column::Stiffness, self.in_hand(), degree)
+    fn factor_at(&self, reduction: Reduction, degree: u32) -> u32 {
+        factor_at(reduction, self.in_hand(), degree)
     }
 
     fn capacity_at(&self, degree: u32) -> u32 {
@@ -182,10 +157,11 @@ impl Steel for MillSheet {
 
 impl MillSheet {
     // Points without fault make a sound table.
+    #[tactic(auto, using(crate::specs::Points::sheet_sound))]
     fn in_hand(&self) -> &[Point]
         ensures points { result.now ≡ points_of self.now }
         ensures sound { Sound (map row_of result.now) }
     {
-        &self.points[0..self.count]
+        &self.points
     }
 }

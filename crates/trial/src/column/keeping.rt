@@ -1,9 +1,10 @@
 // A column: steps added, taken back, and looked through.
-ghost use Rattle.std.specs.Prelude.{◌≡◌, ℕ, ◌+◌, ◌-◌, ◌<◌, ◌≤◌, nat_lt};
+ghost use Rattle.std.specs.Prelude.{◌≡◌, ℕ, ◌+◌, ◌-◌, ◌<◌, ◌≤◌, nat_le, nat_lt};
 ghost use Rattle.trial.specs.Columns.{steps_of, temperature_of};
 ghost use Rattle.trial.specs.Questions.{hottest, first, temperature_at};
 
 use crate::column::Column;
+use arrayvec::ArrayVec;
 
 impl Column {
     // Step 0 alone, cold.
@@ -11,53 +12,57 @@ impl Column {
         ensures standing { steps_of result ≡ 0 }
         ensures start { temperature_of result 0 ≡ 20000 }
     {
-        Column {
-            temperatures: [20_000; 4097],
-            standing: 0,
-        }
+        let mut temperatures = ArrayVec::new();
+        temperatures.push(20_000);
+        Column { temperatures }
     }
 
+    // How many steps stand, step 0 not counted.
     pub(crate) fn standing(&self) -> usize
         ensures { result ≡ steps_of self.now }
     {
-        self.standing
+        self.temperatures.len() - 1
+    }
+
+    // Whether as many steps stand as may.
+    pub(crate) fn is_full(&self) -> bool
+        ensures { result ≡ nat_le 4096 (steps_of self.now) }
+    {
+        self.temperatures.is_full()
     }
 
     // The temperature of the last standing step.
     pub(crate) fn last(&self) -> u32
         ensures { result ≡ temperature_of self.now (steps_of self.now) }
     {
-        self.temperatures[self.standing]
+        self.temperatures[self.standing()]
     }
 
     pub(crate) fn at(&self, step: usize) -> Option<u32>
         ensures { result ≡ temperature_at (temperature_of self.now) (steps_of self.now) step }
     {
-        if step <= self.standing {
-            Some(self.temperatures[step])
-        } else {
-            None
-        }
+        self.temperatures.get(step).copied()
     }
 
     // One step more.
     pub(crate) fn add(&mut self, temperature: u32)
-        requires { (steps_of self.old < 4096) × ((20000 ≤ temperature) × (temperature ≤ 1200000)) }
+        requires room { steps_of self.old < 4096 }
+        requires least { 20000 ≤ temperature }
+        requires most { temperature ≤ 1200000 }
         ensures standing { steps_of self.new ≡ steps_of self.old + 1 }
         ensures new { temperature_of self.new (steps_of self.old + 1) ≡ temperature }
         ensures kept { (k : ℕ) → k ≤ steps_of self.old → temperature_of self.new k ≡ temperature_of self.old k }
     {
-        self.temperatures[self.standing + 1] = temperature;
-        self.standing += 1;
+        self.temperatures.push(temperature);
     }
 
     // Takes the last steps away.
     pub(crate) fn cut(&mut self, steps: usize)
         requires { steps ≤ steps_of self.old }
         ensures standing { steps_of self.new ≡ steps_of self.old - steps }
-        ensures kept { (k : ℕ) → temperature_of self.new k ≡ temperature_of self.old k }
+        ensures kept { (k : ℕ) → k ≤ steps_of self.new → temperature_of self.new k ≡ temperature_of self.old k }
     {
-        self.standing -= steps;
+        self.temperatures.truncate(self.temperatures.len() - steps);
     }
 
     // The highest temperature of a standing step.
@@ -65,7 +70,8 @@ impl Column {
         ensures { result ≡ hottest (temperature_of self.now) (steps_of self.now) }
     {
         let mut highest = self.temperatures[0];
-        for step in 0..self.standing + 1 {
+        // A form that the project keeps: a range of steps, and the column read by index.
+        for step in 0..self.temperatures.len() {
             highest = highest.max(self.temperatures[step]);
         }
         highest
@@ -75,7 +81,8 @@ impl Column {
     pub(crate) fn first_above(&self, limit: u32) -> Option<usize>
         ensures { result ≡ first (λ k. nat_lt limit (temperature_of self.now k)) (steps_of self.now + 1) }
     {
-        for step in 0..self.standing + 1 {
+        // A form that the project keeps: a range of steps, and the column read by index.
+        for step in 0..self.temperatures.len() {
             if limit < self.temperatures[step] {
                 return Some(step);
             }

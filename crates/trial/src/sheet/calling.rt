@@ -1,24 +1,13 @@
 // Calls as values, each answered as the tally answers it.
 ghost use Rattle.std.specs.Prelude.{◌≡◌};
-ghost use Rattle.trial.specs.Calls.{after, outcome_of, reply, told_by};
+ghost use Rattle.trial.specs.Calls.{after, reply, told_by};
 ghost use Rattle.trial.specs.Law.{Lawful};
 ghost use Rattle.trial.specs.Views.{Same, view_of};
 
 use crate::call::{Answer, Call, Question};
-use crate::refusal::Refusal;
 use crate::sheet::Sheet;
 use fires::Fire;
 use steels::Steel;
-
-// Accepted or refused, as an answer.
-fn outcome(res: Result<(), Refusal>) -> Answer
-    ensures { result ≡ outcome_of res }
-{
-    match res {
-        Ok(()) => Answer::Accepted,
-        Err(refusal) => Answer::Refused(refusal),
-    }
-}
 
 impl<S: Steel, F: Fire> Sheet<S, F> {
     pub fn ask(&self, question: Question) -> Answer
@@ -41,11 +30,11 @@ impl<S: Steel, F: Fire> Sheet<S, F> {
     {
         match call {
             Call::Heat(asked) => {
-                let (made, stop) = self.heat(asked);
-                Answer::Heated(made, stop)
+                let (made, stop) = self.make_steps(asked);
+                Answer::Heated { made, stop }
             }
-            Call::Back(steps) => outcome(self.back(steps)),
-            Call::Load(load) => outcome(self.load(load)),
+            Call::Back(steps) => Answer::Done(self.back(steps)),
+            Call::Load(load) => Answer::Done(self.load(load)),
             Call::Ask(question) => self.ask(question),
         }
     }

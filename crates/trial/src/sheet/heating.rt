@@ -3,22 +3,18 @@ ghost use Rattle.std.specs.Prelude.{◌≡◌, ◌*◌, ◌≤◌, pos, ◌+ℤ�
 ghost use Rattle.std.specs.Result.{result_err};
 ghost use Rattle.member_check.specs.Members.{figures_of};
 ghost use Rattle.fires.specs.Meaning.{Within};
-ghost use Rattle.trial.specs.Calls.{after_heat, heat_answer, next_capacity, next_end, next_reading, next_stop};
-ghost use Rattle.trial.specs.Course.{stop_code};
+ghost use Rattle.trial.specs.Calls.{after_heat, heat_answer, heat_made, heat_stop, reply, next_capacity, next_end, next_reading, next_stop};
 ghost use Rattle.trial.specs.Heating.{at_least, rise};
 ghost use Rattle.trial.specs.Law.{Lawful};
 ghost use Rattle.trial.specs.Views.{Same, view_of};
-ghost use Rattle.trial.specs.declared.call.Answer.TheVariants.{Heated};
 ghost use Rattle.trial.specs.declared.call.Call.TheVariants.{Heat};
 
 use crate::sheet::Sheet;
 use crate::stop::Stop;
-use fires::{Fire, Reading};
+use fires::{Fire, NoFlux};
 use member_check::Member;
 use rounding::rounded_up;
 use steels::Steel;
-
-const MOST_STEPS: usize = 4096;
 
 const COLDEST: i64 = 20_000;
 
@@ -35,29 +31,32 @@ fn exposure(member: &Member) -> u64
 fn inertia(capacity: u32) -> u64
     ensures { result ≡ capacity * 7850 }
 {
-    capacity as u64 * 7850
+    u64::from(capacity) * 7850
 }
 
 // The rise in millidegrees, rounded up for gain and loss.
 fn rise(member: &Member, capacity: u32, flux: i32) -> i64
-    requires { (300 ≤ capacity) × ((capacity ≤ 6000) × (Within 400000 flux)) }
+    requires least { 300 ≤ capacity }
+    requires most { capacity ≤ 6000 }
+    requires flux { Within 400000 flux }
     ensures value { result ≡ rise (figures_of member.now) capacity flux }
     ensures range { Within 1000000 result }
 {
-    rounded_up(flux as i64 * exposure(member) as i64, inertia(capacity))
+    rounded_up(i64::from(flux) * exposure(member) as i64, inertia(capacity))
 }
 
 // The temperature that a rise leads to.
 fn risen(temperature: u32, rise: i64) -> u32
-    requires { (temperature ≤ 1200000) × (Within 1000000 rise) }
+    requires most { temperature ≤ 1200000 }
+    requires rise { Within 1000000 rise }
     ensures { result ≡ at_least 20000 (pos temperature +ℤ rise) }
 {
-    (temperature as i64 + rise).max(COLDEST) as u32
+    (i64::from(temperature) + rise).max(COLDEST) as u32
 }
 
 impl<S: Steel, F: Fire> Sheet<S, F> {
     // What the fire tells of the next step, whose number is the count of steps that stand.
-    fn next_reading(&self) -> Reading
+    fn next_reading(&self) -> Result<i32, NoFlux>
         ensures { result ≡ next_reading (view_of S.Steel F.Fire self.now) }
     {
         let step = self.column.standing();
@@ -75,32 +74,25 @@ impl<S: Steel, F: Fire> Sheet<S, F> {
     fn next(&self) -> Result<u32, Stop>
         ensures stop { result_err result ≡ next_stop (view_of S.Steel F.Fire self.now) }
         ensures end { IfOk result (λ t. t ≡ next_end (view_of S.Steel F.Fire self.now)) }
-        ensures range { IfOk result (λ t. (20000 ≤ t) × (t ≤ 1200000)) }
+        ensures least { IfOk result (λ t. 20000 ≤ t) }
+        ensures most { IfOk result (λ t. t ≤ 1200000) }
     {
-        if self.column.standing() >= MOST_STEPS {
+        if self.column.is_full() {
             return Err(Stop::SheetFull);
         }
-        match self.next_reading() {
-            Reading::Ended => Err(Stop::FireEnded),
-            Reading::Missing => Err(Stop::NoReading),
-            Reading::Flux(flux) => {
-                let end = risen(
-                    self.column.last(),
-                    rise(&self.member, self.capacity(), flux),
-                );
-                if end > LIMIT {
-                    Err(Stop::TooHot)
-                } else {
-                    Ok(end)
-                }
-            }
+        let flux = self.next_reading()?;
+        let rise = rise(&self.member, self.capacity(), flux);
+        let end = risen(self.column.last(), rise);
+        if end > LIMIT {
+            return Err(Stop::TooHot);
         }
+        Ok(end)
     }
 
     // Makes steps one by one until all that are asked for are made or one is stopped: how many were made, and what stopped the next.
-    fn make_steps(&mut self, asked: usize) -> (usize, Option<Stop>)
-        ensures made { result.0 ≡ (heat_answer (view_of S.Steel F.Fire self.old) asked).0 }
-        ensures stop { stop_code result.1 ≡ (heat_answer (view_of S.Steel F.Fire self.old) asked).1 }
+    pub(crate) fn make_steps(&mut self, asked: usize) -> (usize, Option<Stop>)
+        ensures made { result.0 ≡ heat_made (view_of S.Steel F.Fire self.old) asked }
+        ensures stop { result.1 ≡ heat_stop (view_of S.Steel F.Fire self.old) asked }
         ensures after { Same (after_heat (view_of S.Steel F.Fire self.old) asked) (view_of S.Steel F.Fire self.new) }
     {
         for made in 0..asked {
@@ -117,17 +109,15 @@ impl<S: Steel, F: Fire> Sheet<S, F> {
         ensures after { Same (after_heat (view_of S.Steel F.Fire self.old) asked) (view_of S.Steel F.Fire self.new) }
     {
         let (made, stop) = self.make_steps(asked);
-        match stop {
-            Some(stop) => (made, stop.number()),
-            None => (made, 0),
-        }
+        (made, stop.map_or(0, |stop| stop.number()))
     }
 
     // Heats by the steps asked for: how many were made, and the number of what stopped the next, 0 if all were made.
+    // A pair of plain numbers is a form that the project keeps; `call` answers with the stop itself.
     pub fn heat(&mut self, asked: usize) -> (usize, u32)
         ensures answer { result ≡ heat_answer (view_of S.Steel F.Fire self.old) asked }
         ensures after { Same (after_heat (view_of S.Steel F.Fire self.old) asked) (view_of S.Steel F.Fire self.new) }
-        ensures law { Lawful (view_of S.Steel F.Fire self.old) (Heat asked) (Heated result.0 result.1) (view_of S.Steel F.Fire self.new) }
+        ensures law { Lawful (view_of S.Steel F.Fire self.old) (Heat asked) (reply (view_of S.Steel F.Fire self.old) (Heat asked)) (view_of S.Steel F.Fire self.new) }
     {
         self.heated(asked)
     }

@@ -2,10 +2,11 @@
 ghost use Rattle.std.specs.Prelude.{◌≡◌, false, [], is_ok, OnOk};
 ghost use Rattle.std.specs.Option.{option_map};
 ghost use Rattle.std.specs.Result.{result_err};
-ghost use Rattle.trial.specs.Calls.{after_back, after_load, back_fault, load_fault, outcome_of};
+ghost use Rattle.trial.specs.Calls.{after_back, after_load, back_fault, load_fault};
 ghost use Rattle.trial.specs.Law.{Law, Lawful};
 ghost use Rattle.trial.specs.Refusal.{refused};
 ghost use Rattle.trial.specs.Views.{Same, new_view, parts_of, view_of};
+ghost use Rattle.trial.specs.declared.call.Answer.TheVariants.{Done};
 ghost use Rattle.trial.specs.declared.call.Call.TheVariants.{Back, Load};
 
 use crate::column::Column;
@@ -53,7 +54,7 @@ impl<S: Steel, F: Fire> Sheet<S, F> {
         ensures fault { option_map refused (result_err result) ≡ back_fault (view_of S.Steel F.Fire self.old).standing steps }
         ensures taken { OnOk result (Same (after_back (view_of S.Steel F.Fire self.old) steps) (view_of S.Steel F.Fire self.new)) }
         ensures kept { is_ok result ≡ false → self.new ≡ self.old }
-        ensures law { Lawful (view_of S.Steel F.Fire self.old) (Back steps) (outcome_of result) (view_of S.Steel F.Fire self.new) }
+        ensures law { Lawful (view_of S.Steel F.Fire self.old) (Back steps) (Done result) (view_of S.Steel F.Fire self.new) }
     {
         self.take_back(steps)
     }
@@ -75,7 +76,7 @@ impl<S: Steel, F: Fire> Sheet<S, F> {
         ensures fault { option_map refused (result_err result) ≡ load_fault (view_of S.Steel F.Fire self.old).parts load }
         ensures taken { OnOk result (Same (after_load (view_of S.Steel F.Fire self.old) load) (view_of S.Steel F.Fire self.new)) }
         ensures kept { is_ok result ≡ false → self.new ≡ self.old }
-        ensures law { Lawful (view_of S.Steel F.Fire self.old) (Load load) (outcome_of result) (view_of S.Steel F.Fire self.new) }
+        ensures law { Lawful (view_of S.Steel F.Fire self.old) (Load load) (Done result) (view_of S.Steel F.Fire self.new) }
     {
         self.replace_load(load)
     }

@@ -6,4 +6,4 @@ use Rattle.steels.proofs.table.along.Given as goal
 abbrev pub invariant-loop-next : goal.invariant-loop-next
 invariant-loop-next g l =
     (l.from.degree ≤ l.degree)
-    × (line l.column l.from (map g.P.Tabled.row (drop l.next-index l.rest)) l.degree ≡ line l.column l.initial.from (map g.P.Tabled.row l.rest) l.degree)
+    × (line l.reduction l.from (map g.P.Tabled.row (drop l.next-index l.rest)) l.degree ≡ line l.reduction l.initial.from (map g.P.Tabled.row l.rest) l.degree)

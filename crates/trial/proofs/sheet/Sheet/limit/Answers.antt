@@ -1,4 +1,5 @@
 use Rattle.std.proofs.Common.{arith}
+use Rattle.steels.specs.declared.table.Reduction.TheVariants.{Stiffness, Strength}
 use Rattle.trial.specs.Views.{view_of}
 use Rattle.trial.proofs.Failing.{critical_in_parts}
 use Rattle.trial.proofs.sheet.Sheet.limit.Goals as goal
@@ -7,5 +8,5 @@ pub overflow_mul-result : goal.overflow_mul-result
 overflow_mul-result g c =
     let sheet = c.args.self.now in
     let v = view_of g.S.Steel g.F.Fire sheet in
-    let parted = critical_in_parts v.parts v.load (g.met.S.Steel.strength_law sheet.steel) (g.met.S.Steel.stiffness_law sheet.steel) in
+    let parted = critical_in_parts v.parts v.load (g.met.S.Steel.factor_law sheet.steel Strength) (g.met.S.Steel.factor_law sheet.steel Stiffness) in
     omega (arith, parted.most, c.critical_temperature.ensures)

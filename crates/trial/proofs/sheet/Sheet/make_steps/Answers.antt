@@ -3,7 +3,7 @@ use Rattle.trial.proofs.Heats.{heating_done, heating_more, heating_starts, heati
 use Rattle.trial.proofs.sheet.Sheet.make_steps.Goals as goal
 
 pub loop-made-init : goal.loop-made-init
-loop-made-init g c = heating_starts _ c.args.self.now.column.few
+loop-made-init g c = heating_starts _ (omega (arith, c.args.self.now.column.few))
 
 pub returns-in-Err : goal.returns-in-Err
 returns-in-Err g c =
@@ -17,4 +17,4 @@ loop-made-preserved g c =
     (record { parts = refl; load = refl; standing = added.standing; new = added.new; kept = added.kept })
 
 pub returns : goal.returns
-returns g c = heating_done _ _ c.loop-made.made c.loop-made.invariant c.args.asked (omega arith) c.args.self.now.column.few
+returns g c = heating_done _ _ c.loop-made.made c.loop-made.invariant c.args.asked (omega arith) (omega (arith, c.args.self.now.column.few))

@@ -1,6 +1,6 @@
 use Rattle.std.proofs.Common.{◌≡◌, drop, None}
 use Rattle.steels.specs.Mill.{point_fault}
-use Rattle.steels.proofs.mill.sheet.point_fault.Given as goal
+use Rattle.steels.proofs.mill.sheet.try_each_point.Given as goal
 
 -- what is left, behind the point before it, decides
 abbrev pub invariant-loop-i : goal.invariant-loop-i
