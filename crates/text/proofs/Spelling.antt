@@ -21,13 +21,3 @@ spelled n text front all h fits most last = rw (decimal_step n h fits, ← appen
 
 pub both : (text one two x y : List ℕ) → one ≡ text ++ x → two ≡ one ++ y → two ≡ text ++ (x ++ y)
 both text one two x y first second = rw (← append_assoc) (cc)
-
--- one field more in a row of fields
-pub field_more : {X : Type 0} (f : X → List ℕ) (front : List ℕ) (xs : List X) (i : ℕ) (d : X) (text longer : List ℕ) → i < length xs
-    → text ≡ front ++ flat_map f (take i xs) → longer ≡ text ++ f (get_or xs i d) → longer ≡ front ++ flat_map f (take (i + 1) xs)
-field_more f front xs i d text longer inside so_far more = rw (take_more xs i d inside, ← flat_map_more) (cc)
-
--- the line feed behind the last field
-pub ended : {X : Type 0} (f : X → List ℕ) (letter : ℕ) (xs : List X) (i : ℕ) (text line : List ℕ) → length xs ≤ i
-    → text ≡ (letter ∷ []) ++ flat_map f (take i xs) → line ≡ text ++ (10 ∷ []) → line ≡ spoken letter (flat_map f xs)
-ended f letter xs i text line past so_far more = let all = take_all i xs past in cc

@@ -1,5 +1,5 @@
 // Replies written field by field.
-ghost use Rattle.std.specs.Prelude.{◌≡◌, ◌+◌, ◌<◌, ◌≤◌, [], ◌∷◌, ◌++◌, length, codes, decimal};
+ghost use Rattle.std.specs.Prelude.{◌≡◌, ℕ, ◌+◌, ◌<◌, ◌≤◌, List, [], ◌∷◌, ◌++◌, length, codes, decimal};
 ghost use Rattle.std.specs.List.{flat_map};
 ghost use Rattle.text.specs.Replies.{size_of, text_of};
 ghost use Rattle.text.specs.Spoken.{fields_of, spoken, told};
@@ -69,28 +69,6 @@ impl Reply {
         self.push(b'e');
     }
 
-    // The fields of an answer.
-    fn push_answer(&mut self, answer: Answer)
-        requires { size_of self.old + 42 ≤ 176 }
-        ensures text { text_of self.new ≡ text_of self.old ++ fields_of answer }
-        ensures size { size_of self.new ≤ size_of self.old + 42 }
-    {
-        match answer {
-            Answer::Heated(made, stop) => {
-                self.push_field(made as u64);
-                self.push_field(u64::from(stop));
-            }
-            Answer::Accepted => self.push_field(0),
-            Answer::Refused(refusal) => self.push_field(u64::from(refusal.number())),
-            Answer::Standing(steps) => self.push_field(steps as u64),
-            Answer::Temperature(Some(temperature)) => self.push_field(u64::from(temperature)),
-            Answer::Hottest(temperature) => self.push_field(u64::from(temperature)),
-            Answer::CriticalTemperature(degree) => self.push_field(u64::from(degree)),
-            Answer::FirstFailing(Some(step)) => self.push_field(step as u64),
-            Answer::Temperature(None) | Answer::FirstFailing(None) => self.push_none(),
-        }
-    }
-
     fn started(letter: u8) -> Reply
         ensures text { text_of result ≡ letter ∷ [] }
         ensures size { size_of result ≡ 1 }
@@ -100,29 +78,55 @@ impl Reply {
         reply
     }
 
-    // A letter, numbers and a line feed.
-    pub(crate) fn numbers(letter: u8, numbers: &[u64]) -> Reply
-        requires { length numbers.now ≤ 4 }
-        ensures { text_of result ≡ spoken letter (flat_map told numbers.now) }
+    // A letter, the fields of each item and a line feed.
+    pub(crate) fn line<T: Spoken>(letter: u8, items: &[T]) -> Reply
+        requires { length items.now ≤ 4 }
+        ensures { text_of result ≡ spoken letter (flat_map T.fields items.now) }
     {
         let mut reply = Reply::started(letter);
-        for number in numbers {
-            reply.push_field(*number);
+        for item in items {
+            item.push_to(&mut reply);
         }
         reply.push(b'\n');
         reply
     }
+}
 
-    // A letter, the fields of answers and a line feed.
-    pub(crate) fn answers(letter: u8, answers: &[Answer]) -> Reply
-        requires { length answers.now ≤ 4 }
-        ensures { text_of result ≡ spoken letter (flat_map fields_of answers.now) }
-    {
-        let mut reply = Reply::started(letter);
-        for answer in answers {
-            reply.push_answer(*answer);
+// What a reply can say: one field or two.
+pub(crate) trait Spoken {
+    ghost fields: { Self → List ℕ };
+
+    fn push_to(&self, reply: &mut Reply)
+        requires { size_of reply.old + 42 ≤ 176 }
+        ensures text { text_of reply.new ≡ text_of reply.old ++ fields self.now }
+        ensures size { size_of reply.new ≤ size_of reply.old + 42 };
+}
+
+impl Spoken for u64 {
+    ghost fields = { told };
+
+    fn push_to(&self, reply: &mut Reply) {
+        reply.push_field(*self);
+    }
+}
+
+impl Spoken for Answer {
+    ghost fields = { fields_of };
+
+    fn push_to(&self, reply: &mut Reply) {
+        match *self {
+            Answer::Heated(made, stop) => {
+                reply.push_field(made as u64);
+                reply.push_field(u64::from(stop));
+            }
+            Answer::Accepted => reply.push_field(0),
+            Answer::Refused(refusal) => reply.push_field(u64::from(refusal.number())),
+            Answer::Standing(steps) => reply.push_field(steps as u64),
+            Answer::Temperature(Some(temperature)) => reply.push_field(u64::from(temperature)),
+            Answer::Hottest(temperature) => reply.push_field(u64::from(temperature)),
+            Answer::CriticalTemperature(degree) => reply.push_field(u64::from(degree)),
+            Answer::FirstFailing(Some(step)) => reply.push_field(step as u64),
+            Answer::Temperature(None) | Answer::FirstFailing(None) => reply.push_none(),
         }
-        reply.push(b'\n');
-        reply
     }
 }

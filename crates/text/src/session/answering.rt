@@ -41,7 +41,7 @@ fn is_refused(answer: Answer) -> bool
 fn summed_up(sheet: &Sheet<Carbon, GaugeRecord>) -> Reply
     ensures { text_of result ≡ summary views (seen sheet.now) }
 {
-    Reply::answers(
+    Reply::line(
         b'Q',
         &[
             sheet.ask(Question::Standing),
@@ -86,11 +86,11 @@ impl Session {
                     member,
                     gauges: GaugeRecord::new(),
                 };
-                Reply::numbers(b'M', &[0])
+                Reply::line(b'M', &[0u64])
             }
             Err(refusal) => {
                 self.state = State::MemberAwaited;
-                Reply::numbers(b'M', &[u64::from(refusal.number())])
+                Reply::line(b'M', &[u64::from(refusal.number())])
             }
         }
     }
@@ -103,7 +103,7 @@ impl Session {
         match &mut self.state {
             State::Readings { gauges, .. } => match gauges.push(word) {
                 Ok(()) => Reply::silent(),
-                Err(refusal) => Reply::numbers(b'R', &[u64::from(refusal.number())]),
+                Err(refusal) => Reply::line(b'R', &[u64::from(refusal.number())]),
             },
             _ => Reply::silent(),
         }
@@ -121,6 +121,6 @@ impl Session {
         if !is_refused(answer) {
             self.state = State::Open(sheet);
         }
-        Reply::answers(letter(call), &[answer])
+        Reply::line(letter(call), &[answer])
     }
 }
