@@ -1,5 +1,5 @@
 // Lines answered one by one.
-ghost use Rattle.std.specs.Prelude.{◌≡◌};
+ghost use Rattle.std.specs.Prelude.{◌≡◌, ◌<◌};
 ghost use Rattle.member_check.specs.Members.{figures_of};
 ghost use Rattle.fires.specs.Gauge.{bytes_of};
 ghost use Rattle.text.specs.Replies.{text_of};
@@ -17,14 +17,15 @@ use steels::Carbon;
 use trial::{Answer, Call, Question, Sheet};
 
 // The letter of a call's line.
-fn letter(call: Call) -> u8
-    ensures { result ≡ letter_of call }
+fn letter(call: Call) -> char
+    ensures value { result ≡ letter_of call }
+    ensures ascii { result < 128 }
 {
     match call {
-        Call::Load(_) => b'L',
-        Call::Heat(_) => b'H',
-        Call::Back(_) => b'B',
-        Call::Ask(_) => b'Q',
+        Call::Load(_) => 'L',
+        Call::Heat(_) => 'H',
+        Call::Back(_) => 'B',
+        Call::Ask(_) => 'Q',
     }
 }
 
@@ -42,7 +43,7 @@ fn summed_up(sheet: &Sheet<Carbon, GaugeRecord>) -> Reply
     ensures { text_of result ≡ summary views (seen sheet.now) }
 {
     Reply::line(
-        b'Q',
+        'Q',
         &[
             sheet.ask(Question::Standing),
             sheet.ask(Question::TemperatureAt(sheet.standing())),
@@ -86,11 +87,11 @@ impl Session {
                     member,
                     gauges: GaugeRecord::new(),
                 };
-                Reply::line(b'M', &[0u64])
+                Reply::line('M', &[0u64])
             }
             Err(refusal) => {
                 self.state = State::MemberAwaited;
-                Reply::line(b'M', &[u64::from(refusal.number())])
+                Reply::line('M', &[u64::from(refusal.number())])
             }
         }
     }
@@ -103,7 +104,7 @@ impl Session {
         match &mut self.state {
             State::Readings { gauges, .. } => match gauges.push(word) {
                 Ok(()) => Reply::silent(),
-                Err(refusal) => Reply::line(b'R', &[u64::from(refusal.number())]),
+                Err(refusal) => Reply::line('R', &[u64::from(refusal.number())]),
             },
             _ => Reply::silent(),
         }
