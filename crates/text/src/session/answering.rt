@@ -32,10 +32,7 @@ fn letter(call: Call) -> char
 fn is_refused(answer: Answer) -> bool
     ensures { result ≡ is_refused answer }
 {
-    match answer {
-        Answer::Refused(_) => true,
-        _ => false,
-    }
+    matches!(answer, Answer::Refused(_))
 }
 
 // What Q asks, answered by a sheet.
