@@ -1,7 +1,7 @@
 // Numbers in a line, read from its bytes.
 ghost use Rattle.std.specs.Prelude.{◌≡◌, ◌<◌, ◌≤◌, length, IfSome};
 ghost use Rattle.std.specs.Option.{option_map};
-ghost use Rattle.text.specs.Numbers.{after, digits_in, field, last_field, last_signed_field, lone, number, signed};
+ghost use Rattle.text.specs.Numbers.{digits_in, field, last_field, last_signed_field, lone, number, signed};
 
 use std::str;
 
@@ -39,35 +39,25 @@ fn lone(text: &[u8]) -> Option<u64>
     }
 }
 
-// What follows a byte that a text begins with.
-fn after(byte: u8, text: &[u8]) -> Option<&[u8]>
-    ensures { option_map (λ x. x.now) result ≡ after byte text.now }
-{
-    match text {
-        [first, rest @ ..] if *first == byte => Some(rest),
-        _ => None,
-    }
-}
-
 // A field that more fields may follow: its number, and what follows it.
 pub fn field(text: &[u8]) -> Option<(u64, &[u8])>
     ensures { option_map (λ x. (x.0, x.1.now)) result ≡ field text.now }
 {
-    number(after(b',', text)?)
+    number(text.strip_prefix(b",")?)
 }
 
 // The last field.
 pub fn last_field(text: &[u8]) -> Option<u64>
     ensures { result ≡ last_field text.now }
 {
-    lone(after(b',', text)?)
+    lone(text.strip_prefix(b",")?)
 }
 
 // A number that a minus may stand before.
 fn signed(text: &[u8]) -> Option<i64>
     ensures { result ≡ signed text.now }
 {
-    match after(b'-', text) {
+    match text.strip_prefix(b"-") {
         Some(digits) => lone(digits).map(|value| -(value as i64)),
         None => lone(text).map(|value| value as i64),
     }
@@ -77,5 +67,5 @@ fn signed(text: &[u8]) -> Option<i64>
 pub fn last_signed_field(text: &[u8]) -> Option<i64>
     ensures { result ≡ last_signed_field text.now }
 {
-    signed(after(b',', text)?)
+    signed(text.strip_prefix(b",")?)
 }
