@@ -5,7 +5,7 @@ ghost use Rattle.text.specs.Replies.{size_of, text_of};
 ghost use Rattle.text.specs.Spoken.{fields_of, spoken, told};
 
 use arrayvec::ArrayString;
-use itoa::Buffer;
+use itoa::{Buffer, Integer};
 use trial::Answer;
 
 // The text of one answer, its line feed within; none for a line that is taken in silence.
@@ -33,9 +33,10 @@ impl Reply {
     }
 
     // A comma and a number.
-    fn push_number(&mut self, number: u64)
-        requires { size_of self.old + 21 ≤ 176 }
-        ensures text { text_of self.new ≡ text_of self.old ++ told number }
+    fn push_number<I: Integer>(&mut self, number: I)
+        requires room { size_of self.old + 21 ≤ 176 }
+        requires short { I.MAX_STR_LEN ≤ 20 }
+        ensures text { text_of self.new ≡ text_of self.old ++ (44 ∷ I.text number) }
         ensures size { size_of self.new ≤ size_of self.old + 21 }
     {
         self.text.push(',');
@@ -90,16 +91,16 @@ impl Spoken for Answer {
     fn push_to(&self, reply: &mut Reply) {
         match *self {
             Answer::Heated(made, stop) => {
-                reply.push_number(made as u64);
-                reply.push_number(u64::from(stop));
+                reply.push_number(made);
+                reply.push_number(stop);
             }
-            Answer::Accepted => reply.push_number(0),
-            Answer::Refused(refusal) => reply.push_number(u64::from(refusal.number())),
-            Answer::Standing(steps) => reply.push_number(steps as u64),
-            Answer::Temperature(Some(temperature)) => reply.push_number(u64::from(temperature)),
-            Answer::Hottest(temperature) => reply.push_number(u64::from(temperature)),
-            Answer::CriticalTemperature(degree) => reply.push_number(u64::from(degree)),
-            Answer::FirstFailing(Some(step)) => reply.push_number(step as u64),
+            Answer::Accepted => reply.push_number(0u32),
+            Answer::Refused(refusal) => reply.push_number(refusal.number()),
+            Answer::Standing(steps) => reply.push_number(steps),
+            Answer::Temperature(Some(temperature)) => reply.push_number(temperature),
+            Answer::Hottest(temperature) => reply.push_number(temperature),
+            Answer::CriticalTemperature(degree) => reply.push_number(degree),
+            Answer::FirstFailing(Some(step)) => reply.push_number(step),
             Answer::Temperature(None) | Answer::FirstFailing(None) => reply.push_none(),
         }
     }
