@@ -62,7 +62,7 @@ impl Session {
         }
     }
 
-    // How far the reader is, which is all that reading a line depends on.
+    // How far the reader is.
     pub fn stage(&self) -> Stage
         ensures { result ≡ stage_of (state_of self.now) }
     {
