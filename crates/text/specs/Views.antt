@@ -12,8 +12,8 @@ use Rattle.trial.specs.declared.sheet.Sheet.{Sheet}
 use Rattle.text.specs.Entries.{entry_of}
 use Rattle.text.specs.Turns.{Sheets, State, Turn, awaiting, line_turn, opened, reading, stage_of}
 use Rattle.text.specs.declared.session.Session.{Session}
-use Rattle.text.specs.declared.stage.Stage.{Stage}
-use Rattle.text.specs.declared.stage.Stage.TheVariants.{MemberAwaited, Readings, Open}
+use Rattle.text.specs.declared.session.State.{State as Held}
+use Rattle.text.specs.declared.session.State.TheVariants.{MemberAwaited, Readings, Open}
 
 -- the sheet of a trial
 abbrev pub seen : Sheet Carbon GaugeRecord → View
@@ -24,13 +24,13 @@ abbrev pub views : Sheets View
 views = record { new = new_view; says = calls.reply; stands = λ v. v.standing; then = calls.after }
 
 -- what its lines have led to, and how many there were
-abbrev pub state_by : Stage → Session → State View
-state_by MemberAwaited s = awaiting
-state_by Readings s = reading (figures_of s.member) (bytes_of s.gauges)
-state_by Open s = opened (seen s.sheet)
+abbrev pub state_by : Held → State View
+state_by MemberAwaited = awaiting
+state_by (Readings member gauges) = reading (figures_of member) (bytes_of gauges)
+state_by (Open sheet) = opened (seen sheet)
 
 abbrev pub state_of : Session → State View
-state_of s = state_by s.stage s
+state_of s = state_by s.state
 
 abbrev pub lines_of : Session → ℕ
 lines_of s = s.lines

@@ -55,20 +55,16 @@ fn read_word(fields: &[u8]) -> Option<i16>
 fn read_steps(fields: &[u8]) -> Option<usize>
     ensures { result ≡ steps_in fields.now }
 {
-    let steps = last_field(fields)?;
-    if steps > u64::from(u32::MAX) {
-        return None;
-    }
+    let steps = u32::try_from(last_field(fields)?).ok()?;
     Some(steps as usize)
 }
 
 fn read_question(fields: &[u8]) -> Option<Entry>
     ensures { result ≡ whole Question fields.now }
 {
-    if fields.is_empty() {
-        Some(Entry::Question)
-    } else {
-        None
+    match fields {
+        [] => Some(Entry::Question),
+        _ => None,
     }
 }
 

@@ -1,19 +1,22 @@
 // A trial that is read line by line.
 mod answering;
 
-use crate::stage::Stage;
 use fires::GaugeRecord;
 use member_check::Member;
 use steels::Carbon;
 use trial::Sheet;
 
-// How many lines have come, and how far the reader is. The member counts once one was made, the record of its gauges while readings are
-// taken, and the sheet once it is open; before that they are fillers that nothing asks.
+// What the lines so far have led to: M is awaited, readings are taken for a member, or the sheet is open.
+#[derive(Drop)]
+enum State {
+    MemberAwaited,
+    Readings { member: Member, gauges: GaugeRecord },
+    Open(Sheet<Carbon, GaugeRecord>),
+}
+
+// How many lines have come, and how far the reader is.
 #[derive(Drop)]
 pub struct Session {
     lines: u64,
-    stage: Stage,
-    member: Member,
-    gauges: GaugeRecord,
-    sheet: Sheet<Carbon, GaugeRecord>,
+    state: State,
 }

@@ -1,18 +1,15 @@
 // Lines answered one by one.
-ghost use Rattle.std.specs.Prelude.{◌≡◌};
+ghost use Rattle.std.specs.Prelude.{◌≡◌, ◌<◌};
 ghost use Rattle.member_check.specs.Members.{figures_of};
-ghost use Rattle.fires.specs.Gauge.{bytes_of, word_bytes};
+ghost use Rattle.fires.specs.Gauge.{bytes_of};
 ghost use Rattle.text.specs.Replies.{text_of};
-ghost use Rattle.trial.specs.Views.{Same, new_view};
-ghost use Rattle.text.specs.Trials.{parts_in};
-ghost use Rattle.text.specs.Turns.{awaiting, entry_turn, is_refused, member_turn, stage_of, summary};
-ghost use Rattle.text.specs.Views.{SameState, lines_of, next_line, seen, state_of, turn_of, views};
+ghost use Rattle.text.specs.Turns.{awaiting, entry_turn, first_turn, is_refused, reading, stage_of, summary};
+ghost use Rattle.text.specs.Views.{SameState, lines_of, seen, state_of, views};
 ghost use Rattle.text.specs.Spoken.{letter_of};
-ghost use Rattle.text.specs.declared.entry.Entry.TheVariants.{Call as Calls, Member as Made, Question as Asked, Reading as Read};
+ghost use Rattle.text.specs.declared.entry.Entry.TheVariants.{Member as Made, Reading as Read};
 
-use crate::entry::{Entry, read_entry};
 use crate::reply::Reply;
-use crate::session::Session;
+use crate::session::{Session, State};
 use crate::stage::Stage;
 use fires::GaugeRecord;
 use member_check::{Figures, Member};
@@ -20,32 +17,30 @@ use steels::Carbon;
 use trial::{Answer, Call, Question, Sheet};
 
 // The letter of a call's line.
-fn letter(call: Call) -> u8
-    ensures { result ≡ letter_of call }
+fn letter(call: Call) -> char
+    ensures value { result ≡ letter_of call }
+    ensures ascii { result < 128 }
 {
     match call {
-        Call::Load(_) => b'L',
-        Call::Heat(_) => b'H',
-        Call::Back(_) => b'B',
-        Call::Ask(_) => b'Q',
+        Call::Load(_) => 'L',
+        Call::Heat(_) => 'H',
+        Call::Back(_) => 'B',
+        Call::Ask(_) => 'Q',
     }
 }
 
 fn is_refused(answer: Answer) -> bool
     ensures { result ≡ is_refused answer }
 {
-    match answer {
-        Answer::Refused(_) => true,
-        _ => false,
-    }
+    matches!(answer, Answer::Refused(_))
 }
 
 // What Q asks, answered by a sheet.
 fn summed_up(sheet: &Sheet<Carbon, GaugeRecord>) -> Reply
     ensures { text_of result ≡ summary views (seen sheet.now) }
 {
-    Reply::answers(
-        b'Q',
+    Reply::line(
+        'Q',
         &[
             sheet.ask(Question::Standing),
             sheet.ask(Question::TemperatureAt(sheet.standing())),
@@ -55,34 +50,26 @@ fn summed_up(sheet: &Sheet<Carbon, GaugeRecord>) -> Reply
     )
 }
 
-// A member in place of none.
-fn unused_member() -> Member {
-    let figures = Figures {
-        section_factor: 10,
-        seconds: 1,
-        yield_strength: 200,
-        cold_strength: 1,
-        buckling_load: None,
-    };
-    match Member::new(figures) {
-        Ok(member) => member,
-        Err(_) => unreachable(),
-    }
-}
-
 impl Session {
     // A session to which no line has come.
     pub fn new() -> Session
         ensures lines { lines_of result ≡ 0 }
         ensures state { state_of result ≡ awaiting }
     {
-        let member = unused_member();
         Session {
             lines: 0,
-            stage: Stage::MemberAwaited,
-            member,
-            gauges: GaugeRecord::new(),
-            sheet: Sheet::new(member, Carbon::new(), GaugeRecord::new()),
+            state: State::MemberAwaited,
+        }
+    }
+
+    // How far the reader is.
+    pub fn stage(&self) -> Stage
+        ensures { result ≡ stage_of (state_of self.now) }
+    {
+        match self.state {
+            State::MemberAwaited => Stage::MemberAwaited,
+            State::Readings { .. } => Stage::Readings,
+            State::Open(_) => Stage::Open,
         }
     }
 
@@ -93,14 +80,15 @@ impl Session {
     {
         match Member::new(figures) {
             Ok(member) => {
-                self.stage = Stage::Readings;
-                self.member = member;
-                self.gauges = GaugeRecord::new();
-                Reply::numbers(b'M', &[0])
+                self.state = State::Readings {
+                    member,
+                    gauges: GaugeRecord::new(),
+                };
+                Reply::line('M', &[0u64])
             }
             Err(refusal) => {
-                self.stage = Stage::MemberAwaited;
-                Reply::numbers(b'M', &[u64::from(refusal.number())])
+                self.state = State::MemberAwaited;
+                Reply::line('M', &[u64::from(refusal.number())])
             }
         }
     }
@@ -110,32 +98,27 @@ impl Session {
         ensures after { SameState (entry_turn views (state_of self.old) (Read word)).1 (state_of self.new) }
         ensures lines { lines_of self.new ≡ lines_of self.old }
     {
-        match self.stage {
-            Stage::Readings => match self.gauges.push(word) {
+        match &mut self.state {
+            State::Readings { gauges, .. } => match gauges.push(word) {
                 Ok(()) => Reply::silent(),
-                Err(refusal) => Reply::numbers(b'R', &[u64::from(refusal.number())]),
+                Err(refusal) => Reply::line('R', &[u64::from(refusal.number())]),
             },
             _ => Reply::silent(),
         }
     }
 
-    // A new sheet of the member in its record.
-    fn begin(&mut self)
-        ensures sheet { Same (new_view (parts_in (figures_of self.old.member) (bytes_of self.old.gauges))) (seen self.new.sheet) }
+    // The first call makes the sheet, and opens the session with it unless the call is refused.
+    fn first_call(&mut self, member: Member, gauges: GaugeRecord, call: Call) -> Reply
+        requires { state_of self.old ≡ reading (figures_of member) (bytes_of gauges) }
+        ensures text { text_of result ≡ (first_turn views (figures_of member) (bytes_of gauges) call).0 }
+        ensures after { SameState (first_turn views (figures_of member) (bytes_of gauges) call).1 (state_of self.new) }
         ensures lines { lines_of self.new ≡ lines_of self.old }
-        ensures stage { self.new.stage ≡ self.old.stage }
-        ensures member { self.new.member ≡ self.old.member }
-        ensures gauges { self.new.gauges ≡ self.old.gauges }
     {
-        self.sheet = Sheet::new(self.member, Carbon::new(), self.gauges);
-    }
-
-    fn first_call(&mut self, call: Call) -> Reply {
-        self.begin();
-        let answer = self.sheet.call(call);
+        let mut sheet = Sheet::new(member, Carbon::new(), gauges);
+        let answer = sheet.call(call);
         if !is_refused(answer) {
-            self.stage = Stage::Open;
+            self.state = State::Open(sheet);
         }
-        Reply::answers(letter(call), &[answer])
+        Reply::line(letter(call), &[answer])
     }
 }

@@ -1,15 +1,13 @@
-use Rattle.std.proofs.Common.{take, sym, ap, ◌∙◌, subst, arith}
-use Rattle.std.specs.Str.Parse.{AllDigits}
-use Rattle.std.specs.Char.{is_ascii_digit}
-use Rattle.std.proofs.lemmas.List.Sums.{prefix_len-le-length}
-use Rattle.text.proofs.Digits.{front_digits}
+use Rattle.std.proofs.Common.{rules}
+use Rattle.text.proofs.Digits.{front_text, front_small, front_read}
 use Rattle.text.proofs.number.number.Goals as goal
 
-pub split_at-requires : goal.split_at-requires
-split_at-requires c = omega (arith, c.digit_count-count.ensures, prefix_len-le-length is_ascii_digit c.args.text.now)
+pub returns-in_err-ok-in-1-to-10-clause-value : goal.returns-in_err-ok-in-1-to-10-clause-value
+returns-in_err-ok-in-1-to-10-clause-value c = search (rules, front_text c.args.text.now)
 
-pub digits_value-requires : goal.digits_value-requires
-digits_value-requires c = (
-  omega (arith, c.split_at.ensures.front_len),
-  subst (AllDigits 10) (ap (λ n. take n c.args.text.now) (sym c.digit_count-count.ensures) ∙ sym c.split_at.ensures.front) (front_digits c.args.text.now),
-)
+pub returns-in_err-value-in-1-to-10-clause-value :
+    goal.returns-in_err-value-in-1-to-10-clause-value
+returns-in_err-value-in-1-to-10-clause-value c = search (rules, front_read c.args.text.now)
+
+pub returns-in_ok-value-in-1-to-10-clause-range : goal.returns-in_ok-value-in-1-to-10-clause-range
+returns-in_ok-value-in-1-to-10-clause-range c = search (rules, front_small c.args.text.now)
