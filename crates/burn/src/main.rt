@@ -5,7 +5,6 @@ mod record;
 mod words;
 
 ghost use Rattle.std.specs.Prelude.{◌≡◌, List, ◌++◌, IfOk, OnOk};
-ghost use Rattle.member_check.specs.Members.{figures_of};
 ghost use Rattle.fires.specs.Gauge.{bytes_of};
 ghost use Rattle.trial.specs.Calls.{temperature_in};
 ghost use Rattle.trial.specs.Law.{Law};
@@ -13,11 +12,11 @@ ghost use Rattle.trial.specs.Parts.{Parts};
 ghost use Rattle.trial.specs.Views.{Same, view_of};
 ghost use Rattle.trial.specs.declared.call.Call.{Call};
 ghost use Rattle.burn.specs.Record.{record_of};
-ghost use Rattle.burn.specs.Test.{parts_in, seen, strut_figures};
+ghost use Rattle.burn.specs.Test.{parts_in, seen};
 
-use anyhow::anyhow;
+use examples::s235;
 use fires::{Fire, GaugeRecord};
-use member_check::{Figures, Member};
+use member_check::Member;
 use record::{Phase, record_bytes};
 use std::alloc::Global;
 use steels::{Carbon, Steel};
@@ -90,31 +89,12 @@ const SCRIPT: [Call; 29] = [
     Call::Ask(Question::FirstFailing),
 ];
 
-fn strut() -> anyhow::Result<Member>
-    ensures { IfOk result (λ m. figures_of m ≡ strut_figures) }
-{
-    let figures = Figures {
-        section_factor: 200,
-        seconds: 5,
-        yield_strength: 235,
-        cold_strength: 1_000_000,
-        buckling_load: Some(2_000_000),
-    };
-    match Member::new(figures) {
-        Ok(member) => Ok(member),
-        Err(_) => Err(anyhow!("the member's figures are refused")),
-    }
-}
-
 fn fire(heap: Global, phases: &[Phase]) -> anyhow::Result<GaugeRecord>
     ensures { IfOk result (λ g. bytes_of g ≡ record_of phases.now) }
 {
     let mut record = GaugeRecord::new();
-    let bytes = record_bytes(heap, phases)?;
-    match record.read(&bytes) {
-        Ok(()) => Ok(record),
-        Err(_) => Err(anyhow!("the gauge record is refused")),
-    }
+    record.read(&record_bytes(heap, phases)?)?;
+    Ok(record)
 }
 
 fn print_phases(rt: &impl Print, phases: &[Phase]) -> anyhow::Result<()> {
@@ -154,7 +134,8 @@ fn trial_of(
     ensures { IfOk result (λ s. Law (parts_in phases.now) script.now (seen s)) }
 {
     let fire = fire(rt.alloc(), phases)?;
-    let mut sheet = Sheet::new(strut()?, Carbon::new(), fire);
+    let strut = Member::new(s235(Some(2_000_000)))?;
+    let mut sheet = Sheet::new(strut, Carbon::new(), fire);
     play(rt, &mut sheet, script)?;
     Ok(sheet)
 }

@@ -34,24 +34,6 @@ impl fmt::Display for Degrees {
     }
 }
 
-// The number of a refusal or a stop, with its cause.
-#[derive(Drop)]
-struct Cause(u32);
-
-impl fmt::Display for Cause {
-    fn fmt<W: fmt::Write>(&self, f: &mut fmt::Formatter<W>) -> fmt::Result {
-        f.write_str(match self.0 {
-            11 => "11: the member does not carry it cold",
-            12 => "12: fewer steps stand",
-            13 => "13: all 4096 steps stand",
-            14 => "14: the fire has ended",
-            15 => "15: the fire has no reading",
-            16 => "16: the step would end above 1200 degrees",
-            _ => "a number without a cause",
-        })
-    }
-}
-
 // An answer as it is printed.
 #[derive(Drop)]
 pub struct Answered(pub Answer);
@@ -59,10 +41,15 @@ pub struct Answered(pub Answer);
 impl fmt::Display for Answered {
     fn fmt<W: fmt::Write>(&self, f: &mut fmt::Formatter<W>) -> fmt::Result {
         match self.0 {
-            Answer::Heated(made, 0) => write!(f, "{made} made"),
-            Answer::Heated(made, stop) => write!(f, "{made} made, then stopped by {}", Cause(stop)),
-            Answer::Accepted => f.write_str("accepted"),
-            Answer::Refused(refusal) => write!(f, "refused, {}", Cause(refusal.number())),
+            Answer::Heated { made, stop: None } => write!(f, "{made} made"),
+            Answer::Heated {
+                made,
+                stop: Some(stop),
+            } => {
+                write!(f, "{made} made, then stopped by {}: {stop}", stop.number())
+            }
+            Answer::Done(Ok(())) => f.write_str("accepted"),
+            Answer::Done(Err(refusal)) => write!(f, "refused, {}: {refusal}", refusal.number()),
             Answer::Temperature(Some(temperature)) | Answer::Hottest(temperature) => {
                 write!(f, "{} degrees", Degrees(temperature))
             }

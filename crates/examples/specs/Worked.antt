@@ -1,11 +1,10 @@
 -- Worked figures of the rules, as one list.
-use Rattle.std.specs.Prelude.{◌≡◌, ℕ, Bool, false, ℤ, pos, neg_ℤ, Some, None, Option}
+use Rattle.std.specs.Prelude.{◌≡◌, ℕ, Bool, false, ℤ, pos, neg_ℤ, Some, None, Ok, Option}
 use Rattle.steels.specs.Carbon.{carbon_capacity, carbon_factor}
-use Rattle.steels.specs.declared.table.Column.TheVariants.{Stiffness, Strength}
+use Rattle.steels.specs.declared.table.Reduction.TheVariants.{Stiffness, Strength}
 use Rattle.fires.specs.Gas.{gas_flux}
 use Rattle.fires.specs.Gauge.{gauge_reading}
 use Rattle.fires.specs.Shaded.{shaded_reading}
-use Rattle.fires.specs.declared.meaning.Reading.TheVariants.{Flux}
 use Rattle.member_check.specs.Check.{critical_of, imperfection_of, passes_at}
 use Rattle.member_check.specs.declared.input.Figures.{Figures}
 use Rattle.trial.specs.Heating.{stepped}
@@ -29,7 +28,7 @@ under flux = record {
   strength = carbon_factor Strength;
   stiffness = carbon_factor Stiffness;
   capacity = carbon_capacity;
-  tells = λ step temperature. Flux flux;
+  tells = λ step temperature. Ok flux;
 }
 
 abbrev pub WorkedFigures : Type 0
@@ -38,10 +37,10 @@ WorkedFigures =
     × (carbon_capacity 20 ≡ 439)
     × (carbon_capacity 734 ≡ 3916)
     × (carbon_capacity 735 ≡ 5000)
-    × (gauge_reading 0xff 0xfd ≡ Flux (neg_ℤ (pos 30)))
+    × (gauge_reading 0xff 0xfd ≡ Ok (neg_ℤ (pos 30)))
     × (gas_flux 100 20 ≡ pos 2476)
-    × (shaded_reading 900 (Flux (pos 15)) ≡ Flux (pos 14))
-    × (shaded_reading 900 (Flux (neg_ℤ (pos 15))) ≡ Flux (neg_ℤ (pos 13)))
+    × (shaded_reading 900 (Ok (pos 15)) ≡ Ok (pos 14))
+    × (shaded_reading 900 (Ok (neg_ℤ (pos 15))) ≡ Ok (neg_ℤ (pos 13)))
     × (stepped (under (pos 10000)) 0 20000 ≡ 22902)
     × (stepped (under (neg_ℤ (pos 30))) 0 20000 ≡ 20000)
     × (imperfection_of 235 ≡ 43)

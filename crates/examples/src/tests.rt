@@ -1,5 +1,6 @@
 // Examples run through the code of all layers. They stand here, in a small crate, since a crate with tests is proved twice.
-use fires::{Fire, GasCurve, GaugeRecord, Reading, Refusal as FireRefusal, Shaded, Shading};
+use crate::s235;
+use fires::{Fire, GasCurve, GaugeRecord, NoFlux, Refusal as FireRefusal, Shaded, Shading};
 use member_check::{Figures, Member, critical_temperature, passes};
 use rounding::rounded_up;
 use std::test::Fail;
@@ -56,7 +57,7 @@ fn capped_steel_carries_nothing_from_its_cap_on(rt: HostRuntime) -> Result<(), F
     let class_4 = Capped::over(Carbon::new(), Cap::new(351)?);
     assert_eq!(rt; class_4.strength_at(350), 10_000);
     assert_eq!(rt; class_4.strength_at(351), 0);
-    let tie = Member::new(figures(5, None))?;
+    let tie = Member::new(s235(None))?;
     assert_eq!(rt; critical_temperature(&tie, &class_4, 1), 350);
     assert_eq!(rt; critical_temperature(&tie, &class_4, 0), 1_200);
     Ok(())
@@ -66,10 +67,10 @@ fn capped_steel_carries_nothing_from_its_cap_on(rt: HostRuntime) -> Result<(), F
 fn record_reads_signed_words(rt: HostRuntime) -> Result<(), Fail> {
     let mut record = GaugeRecord::new();
     record.read(&[0xff, 0xfd, 0x80, 0x00])?;
-    assert_eq!(rt; record.reading_at(0, 20_000), Reading::Flux(-30));
-    assert_eq!(rt; record.reading_at(1, 20_000), Reading::Missing);
+    assert_eq!(rt; record.reading_at(0, 20_000), Ok(-30));
+    assert_eq!(rt; record.reading_at(1, 20_000), Err(NoFlux::Missing));
     assert_eq!(rt; record.read(&[1]), Err(FireRefusal::RecordLength));
-    assert_eq!(rt; record.reading_at(2, 20_000), Reading::Ended);
+    assert_eq!(rt; record.reading_at(2, 20_000), Err(NoFlux::Ended));
     Ok(())
 }
 
@@ -77,7 +78,7 @@ fn record_reads_signed_words(rt: HostRuntime) -> Result<(), Fail> {
 fn curve_heats_and_refuses(rt: HostRuntime) -> Result<(), Fail> {
     let mut curve = GasCurve::new();
     curve.read(&[100])?;
-    assert_eq!(rt; curve.reading_at(0, 20_999), Reading::Flux(2476));
+    assert_eq!(rt; curve.reading_at(0, 20_999), Ok(2476));
     assert_eq!(rt;
         curve.read(&[20, 19]),
         Err(FireRefusal::GasTemperature { step: 1 })
@@ -90,24 +91,14 @@ fn shading_rounds_losses_up(rt: HostRuntime) -> Result<(), Fail> {
     let mut record = GaugeRecord::new();
     record.read(&[0xff, 0xff, 0x00, 0x01])?;
     let shaded = Shaded::over(record, Shading::new(950)?);
-    assert_eq!(rt; shaded.reading_at(0, 20_000), Reading::Flux(-9));
-    assert_eq!(rt; shaded.reading_at(1, 20_000), Reading::Flux(10));
+    assert_eq!(rt; shaded.reading_at(0, 20_000), Ok(-9));
+    assert_eq!(rt; shaded.reading_at(1, 20_000), Ok(10));
     Ok(())
-}
-
-fn figures(seconds: u64, buckling_load: Option<u64>) -> Figures {
-    Figures {
-        section_factor: 200,
-        seconds,
-        yield_strength: 235,
-        cold_strength: 1_000_000,
-        buckling_load,
-    }
 }
 
 #[test]
 fn a_tie_holds_to_its_strength(rt: HostRuntime) -> Result<(), Fail> {
-    let tie = Member::new(figures(5, None))?;
+    let tie = Member::new(s235(None))?;
     assert_eq!(rt; critical_temperature(&tie, &Carbon, 0), 1_200);
     assert_eq!(rt; critical_temperature(&tie, &Carbon, 500_000), 590);
     assert_eq!(rt; critical_temperature(&tie, &Carbon, 1_000_001), 19);
@@ -116,7 +107,7 @@ fn a_tie_holds_to_its_strength(rt: HostRuntime) -> Result<(), Fail> {
 
 #[test]
 fn a_strut_buckles_before(rt: HostRuntime) -> Result<(), Fail> {
-    let strut = Member::new(figures(5, Some(2_000_000)))?;
+    let strut = Member::new(s235(Some(2_000_000)))?;
     assert_eq!(rt; critical_temperature(&strut, &Carbon, 300_000), 569);
     assert!(rt; !passes(&strut, &Carbon, u64::MAX, 20));
     Ok(())
@@ -124,7 +115,10 @@ fn a_strut_buckles_before(rt: HostRuntime) -> Result<(), Fail> {
 
 #[test]
 fn the_smallest_number_is_given(rt: HostRuntime) -> Result<(), Fail> {
-    let Err(refusal) = Member::new(figures(6, Some(0))) else {
+    let Err(refusal) = Member::new(Figures {
+        seconds: 6,
+        ..s235(Some(0))
+    }) else {
         return Err(Fail::new("accepted"));
     };
     assert_eq!(rt; refusal.number(), 2);
@@ -135,7 +129,7 @@ fn the_smallest_number_is_given(rt: HostRuntime) -> Result<(), Fail> {
 fn short_trial() -> Result<Sheet<Carbon, GaugeRecord>, Fail> {
     let mut record = GaugeRecord::new();
     record.read(&[0x03, 0xe8, 0x03, 0xe8, 0xff, 0xfd])?;
-    let strut = Member::new(figures(5, Some(2_000_000)))?;
+    let strut = Member::new(s235(Some(2_000_000)))?;
     Ok(Sheet::new(strut, Carbon::new(), record))
 }
 

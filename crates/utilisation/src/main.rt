@@ -1,14 +1,14 @@
 // Critical temperatures by degree of utilisation beside EN 1993-1-2, Table 4.1, and the net heat flux of gas onto steel.
 #![tactic(auto)]
 
-ghost use Rattle.std.specs.Prelude.{◌≡◌, ◌*◌, IfOk};
-ghost use Rattle.examples.specs.Worked.{s235};
+ghost use Rattle.std.specs.Prelude.{◌≡◌, ◌*◌};
 ghost use Rattle.member_check.specs.Check.{critical_of};
 ghost use Rattle.member_check.specs.Members.{figures_of};
+ghost use Rattle.steels.specs.declared.table.Reduction.TheVariants.{Stiffness, Strength};
 
-use anyhow::anyhow;
-use fires::{Fire, GasCurve, GaugeRecord, Reading, Shaded, Shading};
-use member_check::{Figures, Member, critical_temperature};
+use examples::s235;
+use fires::{Fire, GasCurve, GaugeRecord, NoFlux, Shaded, Shading};
+use member_check::{Member, critical_temperature};
 use std::fmt;
 use steels::{Cap, Capped, Carbon, Steel};
 
@@ -32,38 +32,18 @@ impl fmt::Display for Degree {
     }
 }
 
-// A member of S235 with a cold strength of 1,000,000.
-fn member(buckling_load: Option<u64>) -> anyhow::Result<Member>
-    ensures { IfOk result (λ m. figures_of m ≡ s235 buckling_load) }
-{
-    let figures = Figures {
-        section_factor: 200,
-        seconds: 5,
-        yield_strength: 235,
-        cold_strength: 1_000_000,
-        buckling_load,
-    };
-    match Member::new(figures) {
-        Ok(member) => Ok(member),
-        Err(_) => Err(anyhow!("the member's figures are refused")),
-    }
-}
-
 // The critical temperature at a utilisation in hundredths of that cold strength.
 fn critical<S: Steel>(member: &Member, steel: &S, hundredths: u32) -> Degree
-    ensures { result.0 ≡ critical_of (figures_of member.now) (S.Steel.strength steel.now) (S.Steel.stiffness steel.now) (10000 * hundredths) }
+    ensures { result.0 ≡ critical_of (figures_of member.now) (S.Steel.factor steel.now Strength) (S.Steel.factor steel.now Stiffness) (10000 * hundredths) }
 {
     Degree(critical_temperature(member, steel, 10_000 * u64::from(hundredths)))
 }
 
 // A line for each utilisation of the table; how far the tie lies below and above it.
 fn print_utilisations(rt: &impl Print) -> anyhow::Result<()> {
-    let tie = member(None)?;
-    let strut = member(Some(2_000_000))?;
-    let Ok(cap) = Cap::new(351) else {
-        return Err(anyhow!("the cap is refused"));
-    };
-    let class_4 = Capped::over(Carbon::new(), cap);
+    let tie = Member::new(s235(None))?;
+    let strut = Member::new(s235(Some(2_000_000)))?;
+    let class_4 = Capped::over(Carbon::new(), Cap::new(351)?);
     let mut below = 0;
     let mut above = 0;
     for (hundredths, tabled) in (22..=80).step_by(2).zip(TABLE_4_1) {
@@ -87,39 +67,34 @@ const GAS: [u32; 12] = [
     100, 200, 300, 400, 500, 600, 700, 800, 900, 1000, 1100, 1200,
 ];
 
-// A reading as it is printed.
+// What a fire tells of a step, as it is printed.
 #[derive(Clone, Copy)]
-struct Flux(Reading);
+struct Told(Result<i32, NoFlux>);
 
-impl fmt::Display for Flux {
+impl fmt::Display for Told {
     fn fmt<W: fmt::Write>(&self, f: &mut fmt::Formatter<W>) -> fmt::Result {
         match self.0 {
-            Reading::Flux(flux) => flux.fmt(f),
-            Reading::Missing => f.pad("missing"),
-            Reading::Ended => f.pad("ended"),
+            Ok(flux) => flux.fmt(f),
+            Err(NoFlux::Missing) => f.pad("missing"),
+            Err(NoFlux::Ended) => f.pad("ended"),
         }
     }
 }
 
 fn curve() -> anyhow::Result<GasCurve> {
     let mut curve = GasCurve::new();
-    match curve.read(&GAS) {
-        Ok(()) => Ok(curve),
-        Err(_) => Err(anyhow!("the gas curve is refused")),
-    }
+    curve.read(&GAS)?;
+    Ok(curve)
 }
 
 fn print_fluxes(rt: &impl Print) -> anyhow::Result<()> {
-    let Ok(shading) = Shading::new(900) else {
-        return Err(anyhow!("the shading is refused"));
-    };
     let bare = curve()?;
-    let shaded = Shaded::over(curve()?, shading);
+    let shaded = Shaded::over(curve()?, Shading::new(900)?);
     for (step, gas) in GAS.iter().enumerate() {
-        let bare_cold = Flux(bare.reading_at(step, 20_000));
-        let shaded_cold = Flux(shaded.reading_at(step, 20_000));
-        let bare_hot = Flux(bare.reading_at(step, 600_000));
-        let shaded_hot = Flux(shaded.reading_at(step, 600_000));
+        let bare_cold = Told(bare.reading_at(step, 20_000));
+        let shaded_cold = Told(shaded.reading_at(step, 20_000));
+        let bare_hot = Told(bare.reading_at(step, 600_000));
+        let shaded_hot = Told(shaded.reading_at(step, 600_000));
         println!(rt; "{gas:4}  {bare_cold:>7}  {shaded_cold:>9}  {bare_hot:>8}  {shaded_hot:>10}")?;
     }
     Ok(())
@@ -146,11 +121,9 @@ const WORDS: [u8; 10] = [0x80, 0x01, 0x7f, 0xff, 0x03, 0xe8, 0xff, 0xfd, 0x80, 0
 
 fn print_record(rt: &impl Print) -> anyhow::Result<()> {
     let mut record = GaugeRecord::new();
-    if record.read(&WORDS).is_err() {
-        return Err(anyhow!("the gauge record is refused"));
-    }
+    record.read(&WORDS)?;
     for step in 0..=record.step_count() {
-        let flux = Flux(record.reading_at(step, 20_000));
+        let flux = Told(record.reading_at(step, 20_000));
         println!(rt; "{step:4}  {flux:>7}")?;
     }
     Ok(())

@@ -8,7 +8,7 @@ use Rattle.fires.specs.declared.gauge.GaugeRecord.{GaugeRecord}
 use Rattle.steels.specs.Carbon.{carbon_capacity, carbon_factor}
 use Rattle.steels.specs.contracts.carbon.CarbonSteel.TheImpl as carbon
 use Rattle.steels.specs.declared.carbon.Carbon.{Carbon}
-use Rattle.steels.specs.declared.table.Column.TheVariants.{Stiffness, Strength}
+use Rattle.steels.specs.declared.table.Reduction.TheVariants.{Stiffness, Strength}
 use Rattle.trial.specs.Law.{Law}
 use Rattle.trial.specs.Views.{parts_of}
 use Rattle.burn.specs.Record.{record_of}

@@ -1,6 +1,6 @@
 use Rattle.std.proofs.Common.{◌≡◌, ℕ, ◌+◌, ◌≤◌, true, false, Some, None, Option, refl, arith}
 use Rattle.steels.specs.Carbon.{carbon_factor}
-use Rattle.steels.specs.declared.table.Column.TheVariants.{Stiffness, Strength}
+use Rattle.steels.specs.declared.table.Reduction.TheVariants.{Stiffness, Strength}
 use Rattle.steels.specs.CarbonRules.{carbon_factor_law}
 use Rattle.member_check.proofs.Search.{critical_at}
 use Rattle.member_check.specs.Check.{passes_at}
