@@ -1,4 +1,4 @@
-use Rattle.std.proofs.Common.{◌≡◌, List, [], subst}
+use Rattle.std.proofs.Common.{◌≡◌, List, [], ◌∙◌, subst}
 use Rattle.std.proofs.lemmas.Result.{IfOk-from_err}
 use Rattle.member_check.specs.Members.{figures_of}
 use Rattle.member_check.specs.declared.checked.Member.{Member}
@@ -39,5 +39,5 @@ returns-in_err-play g c = IfOk-from_err _ _ c.from_residual-in_err-play.ensures.
 
 pub returns : goal.returns
 returns g c =
-    let same = parts_are c.in_ok-strut.field-0 _ c.in_ok-fire.fire _ c.in_ok-strut.ensures c.in_ok-fire.ensures in
+    let same = parts_are c.in_ok-strut.strut _ c.in_ok-fire.fire _ (c.in_ok-strut.ensures.judged.0 ∙ c.s235.ensures) c.in_ok-fire.ensures in
     subst (λ p. Law p c.args.script.now (seen c.play.new.sheet)) same (c.in_ok-play.ensures _ [] c.new-sheet.ensures.law)
