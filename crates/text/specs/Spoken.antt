@@ -1,8 +1,9 @@
 -- Answers as bytes.
-use Rattle.std.specs.Prelude.{ℕ, List, [], ◌∷◌, ◌++◌, Some, None, codes, decimal, Option}
+use Rattle.std.specs.Prelude.{ℕ, List, [], ◌∷◌, ◌++◌, Some, None, Ok, Err, codes, decimal, Option}
+use Rattle.trial.specs.Course.{stop_code}
 use Rattle.trial.specs.Refusal.{refused}
 use Rattle.trial.specs.declared.call.Answer.{Answer}
-use Rattle.trial.specs.declared.call.Answer.TheVariants.{Heated, Accepted, Refused, Standing, Temperature, Hottest, CriticalTemperature, FirstFailing}
+use Rattle.trial.specs.declared.call.Answer.TheVariants.{Heated, Done, Standing, Temperature, Hottest, CriticalTemperature, FirstFailing}
 use Rattle.trial.specs.declared.call.Call.{Call}
 use Rattle.trial.specs.declared.call.Call.TheVariants.{Heat, Back, Load, Ask}
 
@@ -15,11 +16,11 @@ abbrev pub told_if : Option ℕ → List ℕ
 told_if (Some n) = told n
 told_if None = 44 ∷ codes "none"
 
--- the fields of an answer: a heat has two, 0 stands for accepted
+-- the fields of an answer: a heat has two; 0 stands for no stop, and for accepted
 abbrev pub fields_of : Answer → List ℕ
-fields_of (Heated made stop) = told made ++ told stop
-fields_of Accepted = told 0
-fields_of (Refused r) = told (refused r).0
+fields_of (Heated made stop) = told made ++ told (stop_code stop)
+fields_of (Done (Ok x)) = told 0
+fields_of (Done (Err r)) = told (refused r).0
 fields_of (Standing n) = told n
 fields_of (Temperature t) = told_if t
 fields_of (Hottest t) = told t

@@ -3,7 +3,7 @@ use Rattle.std.specs.Prelude.{ℕ, List}
 use Rattle.member_check.specs.declared.input.Figures.{Figures}
 use Rattle.fires.specs.Gauge.{gauge_tells}
 use Rattle.steels.specs.Carbon.{carbon_capacity, carbon_factor}
-use Rattle.steels.specs.declared.table.Column.TheVariants.{Stiffness, Strength}
+use Rattle.steels.specs.declared.table.Reduction.TheVariants.{Stiffness, Strength}
 use Rattle.trial.specs.Parts.{Parts}
 
 -- a member's figures and the bytes of a record

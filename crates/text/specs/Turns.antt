@@ -1,13 +1,13 @@
 -- What a line is answered and what it changes. A sheet is known here only by what it says: so the same definitions serve for the sheet of a
 -- session, and for a list of calls that no sheet has made.
-use Rattle.std.specs.Prelude.{ℕ, Bool, true, false, cond, List, [], ◌∷◌, ◌++◌, is_some, Some, None, Option}
+use Rattle.std.specs.Prelude.{ℕ, Bool, true, false, cond, List, [], ◌∷◌, ◌++◌, is_some, Some, None, Ok, Err, Option}
 use Rattle.std.specs.List.{flat_map}
 use Rattle.member_check.specs.Members.{member_fault}
 use Rattle.member_check.specs.declared.input.Figures.{Figures}
 use Rattle.fires.specs.Gauge.{record_fault, word_bytes}
 use Rattle.trial.specs.Parts.{Parts}
 use Rattle.trial.specs.declared.call.Answer.{Answer}
-use Rattle.trial.specs.declared.call.Answer.TheVariants.{Heated, Accepted, Refused, Standing, Temperature, Hottest, CriticalTemperature, FirstFailing}
+use Rattle.trial.specs.declared.call.Answer.TheVariants.{Heated, Done, Standing, Temperature, Hottest, CriticalTemperature, FirstFailing}
 use Rattle.trial.specs.declared.call.Call.{Call}
 use Rattle.trial.specs.declared.call.Call.TheVariants.{Ask}
 use Rattle.trial.specs.declared.call.Question.TheVariants.{Standing as HowMany, TemperatureAt, CriticalTemperature as Limit, FirstFailing as First}
@@ -42,9 +42,9 @@ code_of None = 0
 code_of (Some r) = r.0
 
 abbrev pub is_refused : Answer → Bool
-is_refused (Refused r) = true
+is_refused (Done (Err r)) = true
+is_refused (Done (Ok x)) = false
 is_refused (Heated made stop) = false
-is_refused Accepted = false
 is_refused (Standing n) = false
 is_refused (Temperature t) = false
 is_refused (Hottest t) = false

@@ -90,12 +90,12 @@ impl Spoken for Answer {
 
     fn push_to(&self, reply: &mut Reply) {
         match *self {
-            Answer::Heated(made, stop) => {
+            Answer::Heated { made, stop } => {
                 reply.push_number(made);
-                reply.push_number(stop);
+                reply.push_number(stop.map_or(0, |stop| stop.number()));
             }
-            Answer::Accepted => reply.push_number(0u32),
-            Answer::Refused(refusal) => reply.push_number(refusal.number()),
+            Answer::Done(Ok(())) => reply.push_number(0u32),
+            Answer::Done(Err(refusal)) => reply.push_number(refusal.number()),
             Answer::Standing(steps) => reply.push_number(steps),
             Answer::Temperature(Some(temperature)) => reply.push_number(temperature),
             Answer::Hottest(temperature) => reply.push_number(temperature),

@@ -32,7 +32,7 @@ fn letter(call: Call) -> char
 fn is_refused(answer: Answer) -> bool
     ensures { result ≡ is_refused answer }
 {
-    matches!(answer, Answer::Refused(_))
+    matches!(answer, Answer::Done(Err(_)))
 }
 
 // What Q asks, answered by a sheet.
