@@ -18,7 +18,7 @@ const TABLE_4_1: [u32; 30] = [
     554, 549, 543, 537, 531, 526, 520, 514, 508, 502, 496,
 ];
 
-// A critical temperature as it is printed: `none` if the member does not even pass cold.
+// A critical temperature as it is printed: `none` for 19, the number by which the rules say that there is none.
 #[derive(Clone, Copy)]
 struct Degree(u32);
 
@@ -32,7 +32,7 @@ impl fmt::Display for Degree {
     }
 }
 
-// The critical temperature at a utilisation in hundredths of that cold strength.
+// The critical temperature at a utilisation in hundredths of a cold strength of 1,000,000.
 fn critical<S: Steel>(member: &Member, steel: &S, hundredths: u32) -> Degree
     ensures { result.0 ≡ critical_of (figures_of member.now) (S.Steel.factor steel.now Strength) (S.Steel.factor steel.now Stiffness) (10000 * hundredths) }
 {
