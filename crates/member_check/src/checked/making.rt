@@ -3,37 +3,28 @@ ghost use Rattle.std.specs.Prelude.{◌≡◌, ◌≤◌};
 ghost use Rattle.std.specs.Option.{option_map};
 ghost use Rattle.std.specs.Result.{result_err};
 ghost use Rattle.member_check.specs.Refusal.{refused};
-ghost use Rattle.member_check.specs.Members.{Judged, figures_of, in_range, member_fault};
+ghost use Rattle.member_check.specs.Members.{Judged, figures_of, member_fault};
 
 use crate::checked::Member;
 use crate::input::{Figures, Refusal};
-
-// Whether x is from low to high.
-fn within(x: u64, low: u64, high: u64) -> bool
-    ensures { result ≡ in_range low high x }
-{
-    low <= x && x <= high
-}
 
 impl Member {
     pub fn new(figures: Figures) -> Result<Member, Refusal>
         ensures fault { option_map refused (result_err result) ≡ member_fault figures }
         ensures judged { Judged figures result }
     {
-        if !within(figures.section_factor, 10, 500) {
+        if !matches!(figures.section_factor, 10..=500) {
             return Err(Refusal::SectionFactor);
         }
-        if !within(figures.seconds, 1, 5) {
+        if !matches!(figures.seconds, 1..=5) {
             return Err(Refusal::Seconds);
         }
-        if !within(figures.yield_strength, 200, 500) {
+        if !matches!(figures.yield_strength, 200..=500) {
             return Err(Refusal::YieldStrength);
         }
-        let buckling_fits = match figures.buckling_load {
-            Some(buckling_load) => within(buckling_load, 1, 1_000_000_000),
-            None => true,
-        };
-        if !within(figures.cold_strength, 1, 1_000_000_000) || !buckling_fits {
+        if !matches!(figures.cold_strength, 1..=1_000_000_000)
+            || !matches!(figures.buckling_load, None | Some(1..=1_000_000_000))
+        {
             return Err(Refusal::ColdStrength);
         }
         Ok(Member { given: figures })
