@@ -1,7 +1,8 @@
 // A fire whose flux reaches the steel in part.
-ghost use Rattle.std.specs.Prelude.{◌≡◌, IfOk};
+ghost use Rattle.std.specs.Prelude.{◌≡◌, pos, ◌*ℤ◌, IfOk};
 ghost use Rattle.std.specs.Option.{option_map};
 ghost use Rattle.std.specs.Result.{result_err};
+ghost use Rattle.rounding.specs.Quotient.{rounded_up};
 ghost use Rattle.fires.specs.Refusal.{refused};
 ghost use Rattle.fires.specs.Shaded.{fire_below, shaded_reading, shading_fault, shading_of, thousandths_of};
 ghost use Rattle.fires.specs.ShadedLaws.{shaded_answers};
@@ -19,6 +20,14 @@ impl Shading {
             1..=1000 => Ok(Shading { thousandths }),
             _ => Err(Refusal::Shading),
         }
+    }
+
+    // The part of a flux that reaches the steel, rounded up.
+    fn part_of(self, flux: i32) -> i32
+        ensures { result ≡ rounded_up (flux *ℤ pos (thousandths_of self)) 1000 }
+    {
+        let product = i64::from(flux) * i64::from(self.thousandths);
+        rounding::rounded_up(product, 1000) as i32
     }
 }
 
@@ -49,8 +58,8 @@ impl<F: Fire> Fire for Shaded<F> {
     }
 
     fn reading_at(&self, step: usize, temperature: u32) -> Result<i32, NoFlux> {
-        let flux = self.below.reading_at(step, temperature)?;
-        let part = i64::from(flux) * i64::from(self.shading.thousandths);
-        Ok(rounding::rounded_up(part, 1000) as i32)
+        self.below
+            .reading_at(step, temperature)
+            .map(|flux| self.shading.part_of(flux))
     }
 }
