@@ -72,10 +72,9 @@ impl Demand {
             member: *member,
             load,
             strength: share(load, figures.cold_strength),
-            buckling: match figures.buckling_load {
-                Some(buckling_load) => share(load, buckling_load),
-                None => 0,
-            },
+            buckling: figures
+                .buckling_load
+                .map_or(0, |resistance| share(load, resistance)),
             imperfection: quotient(39_715, 4 * figures.yield_strength),
         }
     }

@@ -8,11 +8,11 @@ ghost use Rattle.member_check.specs.Members.{Judged, figures_of, in_range, membe
 use crate::checked::Member;
 use crate::input::{Figures, Refusal};
 
-// Whether x is from low to high.
-fn within(x: u64, low: u64, high: u64) -> bool
-    ensures { result ≡ in_range low high x }
+// Whether a cold strength or an ideal buckling load is in its range.
+fn is_force(force: u64) -> bool
+    ensures { result ≡ in_range 1 1000000000 force }
 {
-    low <= x && x <= high
+    (1..=1_000_000_000).contains(&force)
 }
 
 impl Member {
@@ -20,20 +20,16 @@ impl Member {
         ensures fault { option_map refused (result_err result) ≡ member_fault figures }
         ensures judged { Judged figures result }
     {
-        if !within(figures.section_factor, 10, 500) {
+        if !(10..=500).contains(&figures.section_factor) {
             return Err(Refusal::SectionFactor);
         }
-        if !within(figures.seconds, 1, 5) {
+        if !(1..=5).contains(&figures.seconds) {
             return Err(Refusal::Seconds);
         }
-        if !within(figures.yield_strength, 200, 500) {
+        if !(200..=500).contains(&figures.yield_strength) {
             return Err(Refusal::YieldStrength);
         }
-        let buckling_fits = match figures.buckling_load {
-            Some(buckling_load) => within(buckling_load, 1, 1_000_000_000),
-            None => true,
-        };
-        if !within(figures.cold_strength, 1, 1_000_000_000) || !buckling_fits {
+        if !is_force(figures.cold_strength) || !figures.buckling_load.is_none_or(is_force) {
             return Err(Refusal::ColdStrength);
         }
         Ok(Member { given: figures })
