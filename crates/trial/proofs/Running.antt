@@ -1,11 +1,11 @@
 -- A run on its way through a log.
-use Rattle.std.proofs.Common.{◌≡◌, ℕ, ◌+◌, ◌<◌, ◌≤◌, List, [], ◌∷◌, ◌++◌, map, length, get_or, take, set, Some, sym, refl, ap, ◌∙◌, subst, arith}
-use Rattle.std.proofs.lemmas.List.{get_or-map, length-map, map_push, map-set, set-get_or, take_all, take_more, take_more_set}
+use Rattle.std.proofs.Common.{◌≡◌, ℕ, ◌+◌, ◌<◌, List, [], ◌∷◌, ◌++◌, map, length, get_or, take, set, Some, refl, ap, arith}
+use Rattle.std.proofs.lemmas.List.{get_or-map, length-map, map_push, map-set, set-get_or, take_more, take_more_set}
 use Rattle.trial.specs.Parts.{Parts}
 use Rattle.trial.specs.Views.{View}
 use Rattle.trial.specs.Law.{Law, Lawful}
 use Rattle.trial.specs.Logs.{answers_of, calls_of}
-use Rattle.trial.specs.Tally.{answered, answers_to, start}
+use Rattle.trial.specs.Tally.{answered, answers_to}
 use Rattle.trial.specs.declared.call.Answer.{Answer}
 use Rattle.trial.specs.declared.log.Logged.{Logged}
 use Rattle.trial.proofs.Tallies.{answered_more}
@@ -26,24 +26,11 @@ running_more p was log i v w d r so_far inside lawful =
     let call = (get_or log i d).call in
     let same = get_or-map (λ (x : Logged). x.call) log i d call inside in
     let long : i < length (calls_of was) = omega (arith, ap length so_far.calls, length-map log (λ (x : Logged). x.call)) in
-    let here : get_or (calls_of was) i call ≡ call = ap (λ cs. get_or cs i call) (sym so_far.calls) ∙ same in
-    let more : take (i + 1) (calls_of was) ≡ take i (calls_of was) ++ (call ∷ []) = take_more (calls_of was) i call long ∙ ap (λ c. take i (calls_of was) ++ (c ∷ [])) here in
+    let here : get_or (calls_of was) i call ≡ call = rw (← so_far.calls) same in
+    let more : take (i + 1) (calls_of was) ≡ take i (calls_of was) ++ (call ∷ []) = rw (take_more (calls_of was) i call long, here) in
     let made = lawful p (take i (calls_of was)) so_far.law.follows in
     record {
-      calls = map-set _ log i _ ∙ (ap (set (calls_of log) i) (sym same) ∙ (set-get_or (calls_of log) i call ∙ so_far.calls));
-      law = subst (λ cs. Law p cs w) (sym more) made.1;
-      answers = ap answers_of (take_more_set log i _ inside) ∙ (map_push (λ (x : Logged). x.answer) (take i log) _
-          ∙ (ap (λ xs. xs ++ (Some r ∷ [])) so_far.answers ∙ (sym (map_push Some (answers_to p (take i (calls_of was))) r)
-          ∙ ap (map Some) (ap (λ x. answers_to p (take i (calls_of was)) ++ (x ∷ [])) made.0 ∙ (sym (answered_more p start (take i (calls_of was)) call) ∙ ap (answers_to p) (sym more))))));
-    }
-
--- all calls are made
-pub running_done : (p : Parts) (was log : List Logged) (i : ℕ) (v : View) → Running p was log i v → length log ≤ i
-    → record { calls : calls_of log ≡ calls_of was; answers : answers_of log ≡ map Some (answers_to p (calls_of was)); law : Law p (calls_of was) v }
-running_done p was log i v made whole =
-    let all : take i (calls_of was) ≡ calls_of was = take_all i (calls_of was) (omega (arith, ap length made.calls, length-map log (λ (x : Logged). x.call))) in
-    record {
-      calls = made.calls;
-      answers = ap answers_of (sym (take_all i log whole)) ∙ (made.answers ∙ ap (λ cs. map Some (answers_to p cs)) all);
-      law = subst (λ cs. Law p cs v) all made.law;
+      calls = rw (map-set, ← same, set-get_or) so_far.calls;
+      law = rw more made.1;
+      answers = rw (take_more_set log i _ inside, map_push (λ (x : Logged). x.answer), so_far.answers, more, answered_more, map_push Some, ← made.0);
     }

@@ -1,21 +1,19 @@
 -- A sheet follows the tally of its calls: at first, and from call to call.
-use Rattle.std.proofs.Common.{◌≡◌, ℕ, suc, ◌-◌, ◌≤◌, min, Bool, true, false, cond, leb, List, [], ◌∷◌, ◌++◌, None, Option, refl, ap, ◌∙◌, subst, arith}
+use Rattle.std.proofs.Common.{◌≡◌, ℕ, suc, ◌-◌, ◌≤◌, Bool, true, false, cond, leb, List, [], ◌∷◌, ◌++◌, refl, ap, ◌∙◌, subst, arith}
 use Rattle.std.proofs.lemmas.Bool.Decides.{nat_tests}
 use Rattle.trial.specs.Parts.{Parts}
 use Rattle.trial.specs.Questions.{fails}
-use Rattle.trial.specs.Course.{ahead, stop_ahead, reach, entry, end, end_cause}
+use Rattle.trial.specs.Course.{ahead, stop_ahead, reach, entry, end}
 use Rattle.trial.specs.Views.{View, Same}
 use Rattle.trial.specs.Answers.{told, can_go_back, carried_cold, judged}
 use Rattle.trial.specs.Calls.{reply, after, after_back, after_load}
 use Rattle.trial.specs.Tally.{Tally, remaining, answer, tallied, start, tally}
 use Rattle.trial.specs.Law.{Follows}
-use Rattle.trial.specs.declared.call.Answer.TheVariants.{Heated}
 use Rattle.trial.specs.declared.call.Call.{Call}
 use Rattle.trial.specs.declared.call.Call.TheVariants.{Heat, Back, Load, Ask}
 use Rattle.trial.specs.declared.call.Question.{Question}
 use Rattle.trial.specs.declared.call.Question.TheVariants.{Standing, TemperatureAt, Hottest, CriticalTemperature, FirstFailing}
 use Rattle.trial.specs.declared.refusal.Refusal.TheVariants.{BackBeyondStart}
-use Rattle.trial.specs.declared.stop.Stop.{Stop}
 use Rattle.trial.proofs.First.{first_same, hottest_same}
 use Rattle.trial.proofs.Courses.{ahead_on, reach_on, end_on}
 use Rattle.trial.proofs.Tallies.{changed, counted_is, tallied_more, tally_sound}
@@ -37,10 +35,6 @@ told_same p load n t u Hottest same = cc (hottest_same t u n same)
 told_same p load n t u CriticalTemperature same = refl
 told_same p load n t u FirstFailing same =
     cc (first_same (λ k. fails p load (t k)) (λ k. fails p load (u k)) (suc n) (λ j h. ap (fails p load) (same j (omega arith))))
-
--- what a heat answers: all that is asked, or what is remaining and the cause
-heat_told : (asked remaining : ℕ) (stop : Option Stop) → Heated (min asked remaining) (cond (leb asked remaining) None stop) ≡ cond (leb asked remaining) (Heated asked None) (Heated remaining stop)
-heat_told asked remaining stop = grind (arith, nat_tests)
 
 -- a sheet stands where a tally says, on the course of p
 record Stands (p : Parts) (z : Tally) (u : View) : Type 0 where
@@ -84,9 +78,7 @@ module _ (calls : List Call) (v : View) (h : Follows v.parts calls v) where
 
   -- the answer is the tally's
   reply_told : (c : Call) → reply v c ≡ answer v.parts (tally v.parts calls) c
-  reply_told (Heat asked) =
-      ap (λ r. Heated (min asked r) (cond (leb asked r) None (stop_ahead p n (v.temperature n) r))) reach_left
-      ∙ (ap (λ s. Heated (min asked (remaining p y)) (cond (leb asked (remaining p y)) None s)) stop_left ∙ heat_told asked (remaining p y) (end_cause p))
+  reply_told (Heat asked) = grind (arith, nat_tests, reach_left, stop_left)
   reply_told (Back steps) = ap (λ m. judged (can_go_back m steps) BackBeyondStart) h.standing
   reply_told (Load load) = refl
   reply_told (Ask q) = told_same p v.load n v.temperature (entry p) q h.course ∙ cc (h.standing, h.load)
