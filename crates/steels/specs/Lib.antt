@@ -7,4 +7,5 @@ pub mod MillStore
 pub mod Table
 pub mod CarbonRules
 pub mod Tables
+pub mod Lines
 pub mod Points

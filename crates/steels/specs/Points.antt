@@ -1,8 +1,8 @@
--- The points of a mill sheet: without fault they make a steel.
-use Rattle.std.specs.Prelude.{◌≡◌, ℕ, suc, ◌<◌, ◌≤◌, Bool, true, false, cond, not, ◌&&◌, ◌||◌, List, [], ◌∷◌, ◌++◌, map, length, is_some, Some, None, Option, ◌==◌, nat_le, nat_lt, refl}
-use Rattle.std.proofs.Common.{ap, subst, ◌∙◌, le_refl, arith}
-use Rattle.std.proofs.lemmas.List.{map-append}
-use Rattle.std.proofs.lemmas.Bool.{and_parts, cond_both, cond-false, cond-true, eqb-true, false≢true, le-ltb, leb-true, lt-ltb, ltb-true, true≢false}
+-- The points of a mill sheet: the walk that looks for a fault.
+use Rattle.std.specs.Prelude.{◌≡◌, ℕ, suc, ◌+◌, ◌-◌, ◌<◌, ◌≤◌, Bool, true, false, cond, not, ◌&&◌, ◌||◌, List, [], ◌∷◌, ◌++◌, map, length, get_or, take, drop, is_some, Some, None, Option, ◌==◌, nat_le, nat_lt, slice_index_or, refl}
+use Rattle.std.proofs.Common.{sym, ap, subst, ◌∙◌, le_refl, add-one, arith, length-drop}
+use Rattle.std.proofs.lemmas.List.{at_drop_more, take_rest, map-append}
+use Rattle.std.proofs.lemmas.Bool.{and_parts, cond_both, cond-false, cond-true, eq-eqb, eqb-true, false≢true, le-ltb, leb-true, lt-ltb, ltb-true, ne_eqb, true≢false}
 use Rattle.std.specs.List.{AllByRecursion}
 use Rattle.steels.specs.declared.point.Point.{Point}
 use Rattle.steels.specs.declared.table.Reduction.{Reduction}
@@ -10,6 +10,37 @@ use Rattle.steels.specs.Meaning.{Capacity, Factor}
 use Rattle.steels.specs.Mill.{Follows, LastNotAbove, capacity_from, degree_fits, falls, in_range, is_last, point_fault, rises, row_of, sheet_capacity, sheet_factor, sheet_fault}
 use Rattle.steels.specs.Table.{Behind, Sound, clamped}
 use Rattle.steels.specs.Tables.{factor_law, further, linear_law}
+
+last_by_length : (xs : List Point) (n : ℕ) (i : ℕ) → length xs + i ≡ n → is_last xs ≡ (i == n)
+last_by_length [] n i e = sym (eq-eqb i n (omega arith))
+last_by_length (x ∷ xs) n i e = sym (ne_eqb i n (omega arith))
+
+-- the walk at point i, behind the point before it
+module _ (points : List Point) (i : ℕ) (none : Point) (before : Option Point) (within : i < length points) where
+  abbrev here : Point
+  here = slice_index_or points i none
+
+  abbrev fits : Bool
+  fits = degree_fits before here (i + 1 == length points)
+
+  abbrev good : Bool
+  good = in_range here && falls before here
+
+  next : point_fault i before (drop i points) ≡ cond fits (cond good (point_fault (i + 1) (Some here) (drop (i + 1) points)) (Some (7, i ∷ []))) (Some (6, i ∷ []))
+  next =
+      at_drop_more (point_fault i before) points i none within
+      ∙ (ap (λ l. cond (degree_fits before here l) (cond good (point_fault (suc i) (Some here) (drop (i + 1) points)) (Some (7, i ∷ []))) (Some (6, i ∷ [])))
+      (last_by_length (drop (i + 1) points) (length points) (i + 1) (omega (arith, length-drop (i + 1) points)))
+      ∙ ap (λ k. cond fits (cond good (point_fault k (Some here) (drop (i + 1) points)) (Some (7, i ∷ []))) (Some (6, i ∷ []))) (sym (add-one i)))
+
+  pub stops_at_degree : fits ≡ false → Some (6, i ∷ []) ≡ point_fault i before (drop i points)
+  stops_at_degree bad = sym (next ∙ cond-false _ _ _ bad)
+
+  pub stops_at_figure : fits ≡ true → good ≡ false → Some (7, i ∷ []) ≡ point_fault i before (drop i points)
+  stops_at_figure fine bad = sym (next ∙ (cond-true _ _ _ fine ∙ cond-false _ _ _ bad))
+
+  pub goes_on : fits ≡ true → good ≡ true → point_fault (i + 1) (Some here) (drop (i + 1) points) ≡ point_fault i before (drop i points)
+  goes_on fine well = sym (next ∙ (cond-true _ _ _ fine ∙ cond-true _ _ _ well))
 
 -- ---- what points without fault are
 
@@ -70,6 +101,9 @@ sheet_sound (p ∷ points) clean =
     let top = ranges 0 None p points inside in
     ((eqb-true p.degree 20 (first_part 0 None p points inside), top.0.0, top.0.1, tail.0), (top.1, tail.1))
 
+pub few_points : (points : List Point) → is_some (sheet_fault points) ≡ false → length points ≤ 64
+few_points points clean = leb-true _ _ (and_parts (nat_le 2 (length points)) _ (no_fault (nat_le 2 (length points) && nat_le (length points) 64) (point_fault 0 None points) (5, []) clean).0).1
+
 -- ---- the heat capacity of a sheet
 
 warm_from : (c : ℕ) (points : List Point) (d : ℕ) → Warm c → AllByRecursion (λ p. Warm p.capacity) points → Warm (capacity_from c points d)
@@ -121,3 +155,22 @@ pub follows : (points : List Point) → is_some (sheet_fault points) ≡ false �
 follows points clean =
     let sound = (sheet_sound points clean).0 in
     record { factors = λ c. linear_law c (map row_of points) sound; capacity = last_not_above points sound }
+
+-- ---- the walk that looks for the heat capacity, at point i
+
+module _ (c : ℕ) (points : List Point) (i : ℕ) (none : Point) (d : ℕ) (within : i < length points) where
+  pub keeps : d < (get_or points i none).degree → c ≡ capacity_from c (drop i points) d
+  keeps under = sym (at_drop_more (λ ps. capacity_from c ps d) points i none within ∙ cond-true _ _ _ (lt-ltb d _ under))
+
+  pub takes : (get_or points i none).degree ≤ d → capacity_from (get_or points i none).capacity (drop (i + 1) points) d ≡ capacity_from c (drop i points) d
+  takes over = sym (at_drop_more (λ ps. capacity_from c ps d) points i none within ∙ cond-false _ _ _ (le-ltb d _ over))
+
+-- the start of that walk
+pub no_points : (points : List Point) (d : ℕ) → length points < 1 → 0 ≡ sheet_capacity points d
+no_points [] d short = refl
+no_points (p ∷ points) d short = omega arith
+
+pub from_first : (points : List Point) (none : Point) (d e r : ℕ) → 0 < length points → e ≡ clamped d → r ≡ capacity_from (get_or points 0 none).capacity (take (length points - 1) (drop 1 points)) e → r ≡ sheet_capacity points d
+from_first [] none d e r some near told = omega arith
+from_first (p ∷ points) none d e r some near told =
+    told ∙ (ap (λ ps. capacity_from p.capacity ps e) (take_rest (p ∷ points) 1) ∙ ap (capacity_from p.capacity points) near)

@@ -8,13 +8,7 @@ use Rattle.steels.specs.declared.table.Reduction.TheVariants.{Strength, Stiffnes
 use Rattle.steels.specs.declared.table.Row.{Row}
 use Rattle.steels.specs.Meaning.{Factor}
 use Rattle.steels.specs.Table.{Behind, Linear, Sound, between, cell, clamped, line, tabled}
-
--- a sum of two values with weights a and b lies between the weighted bounds
-mean_most : (u v a b most : ℕ) → u ≤ most → v ≤ most → u * a + v * b ≤ most * (a + b)
-mean_most u v a b most hu hv = omega (arith, mul-le-mul_right a hu, mul-le-mul_right b hv)
-
-mean_least : (u v a b low : ℕ) → low ≤ u → low ≤ v → low * (a + b) ≤ u * a + v * b
-mean_least u v a b low hu hv = omega (arith, mul-le-mul_right a hu, mul-le-mul_right b hv)
+use Rattle.steels.specs.Lines.{mean_least, mean_most}
 
 by_test : {A : Type 0} (d x : ℕ) (u v : A) (P : A → Type 0) → (d < x → P u) → (x ≤ d → P v) → P (cond (nat_lt d x) u v)
 by_test d x u v P under over = cond_both (nat_lt d x) u v P (λ e. under (ltb-true d x e)) (λ e. over (ltb-false d x e))
