@@ -18,6 +18,7 @@ pub enum Refusal {
 }
 
 impl Refusal {
+    // A variant with a value takes no number of its own, so a match gives them.
     pub fn number(&self) -> u32
         ensures { result ≡ (refused self.now).0 }
     {

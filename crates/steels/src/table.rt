@@ -48,7 +48,8 @@ impl Tabled for Row {
 
 // The line from one row to a later one, rounded down.
 fn interpolated(reduction: Reduction, from: Row, to: Row, degree: u32) -> u32
-    requires { (from.degree ≤ degree) × (degree < to.degree) }
+    requires from { from.degree ≤ degree }
+    requires to { degree < to.degree }
     ensures { result ≡ between reduction from to degree }
 {
     let cold = u64::from(from.cell(reduction)) * u64::from(to.degree - degree);
