@@ -3,33 +3,28 @@ ghost use Rattle.std.specs.Prelude.{◌≡◌, ◌≤◌};
 ghost use Rattle.std.specs.Option.{option_map};
 ghost use Rattle.std.specs.Result.{result_err};
 ghost use Rattle.member_check.specs.Refusal.{refused};
-ghost use Rattle.member_check.specs.Members.{Judged, figures_of, in_range, member_fault};
+ghost use Rattle.member_check.specs.Members.{Judged, figures_of, member_fault};
 
 use crate::checked::Member;
 use crate::input::{Figures, Refusal};
-
-// Whether a cold strength or an ideal buckling load is in its range.
-fn is_force(force: u64) -> bool
-    ensures { result ≡ in_range 1 1000000000 force }
-{
-    (1..=1_000_000_000).contains(&force)
-}
 
 impl Member {
     pub fn new(figures: Figures) -> Result<Member, Refusal>
         ensures fault { option_map refused (result_err result) ≡ member_fault figures }
         ensures judged { Judged figures result }
     {
-        if !(10..=500).contains(&figures.section_factor) {
+        if !matches!(figures.section_factor, 10..=500) {
             return Err(Refusal::SectionFactor);
         }
-        if !(1..=5).contains(&figures.seconds) {
+        if !matches!(figures.seconds, 1..=5) {
             return Err(Refusal::Seconds);
         }
-        if !(200..=500).contains(&figures.yield_strength) {
+        if !matches!(figures.yield_strength, 200..=500) {
             return Err(Refusal::YieldStrength);
         }
-        if !is_force(figures.cold_strength) || !figures.buckling_load.is_none_or(is_force) {
+        if !matches!(figures.cold_strength, 1..=1_000_000_000)
+            || !matches!(figures.buckling_load, None | Some(1..=1_000_000_000))
+        {
             return Err(Refusal::ColdStrength);
         }
         Ok(Member { given: figures })

@@ -13,6 +13,9 @@ asked d =
     let m : d.buckling ≤ 10001 = omega (arith, kept_buckling_most d.load f.buckling_load) in
     mul-le-mul (mul-le-mul a n) m
 
+pub overflow_mul-result-then-enough : goal.overflow_mul-result-then-enough
+overflow_mul-result-then-enough c = omega (arith, asked c.args.self.now)
+
 pub overflow_mul-result-then-enough-2 : goal.overflow_mul-result-then-enough-2
 overflow_mul-result-then-enough-2 c = omega (arith, mul-le-mul (asked c.args.self.now) c.args.factors.strength_most)
 
