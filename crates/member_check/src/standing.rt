@@ -17,7 +17,7 @@ pub fn passes<S: Steel>(member: &Member, steel: &S, load: u64, degree: u32) -> b
     Demand::of(member, load).passes_at(steel, degree)
 }
 
-// The greatest whole degree from 20 to 1,200 at which the member passes, 19 if there is none.
+// The greatest whole degree from 20 to 1,200 at which the member passes. The rules name 19 where there is none, and limits are reckoned from it, so it is no `Option`.
 // It halves the degrees left: once a member fails, it passes at no higher degree.
 // By hand: std's `partition_point` halves slices alone, and a `find` down the range asks the steel up to 1,181 times, not eleven.
 pub fn critical_temperature<S: Steel>(member: &Member, steel: &S, load: u64) -> u32

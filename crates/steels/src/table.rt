@@ -19,6 +19,7 @@ pub enum Reduction {
 }
 
 impl Row {
+    // A reduction is data that contracts name, so it is matched; a closure could not be named there.
     fn cell(&self, reduction: Reduction) -> u32
         ensures { result ≡ cell reduction self.now }
     {

@@ -68,7 +68,7 @@ fn read_question(fields: &[u8]) -> Option<Entry>
     }
 }
 
-// A line that makes a call or asks.
+// A line that makes a call or asks. The letter against literals is a form that the project keeps.
 fn read_call(letter: char, fields: &[u8]) -> Option<Entry>
     ensures { result ≡ call_in letter fields.now }
 {
@@ -81,7 +81,7 @@ fn read_call(letter: char, fields: &[u8]) -> Option<Entry>
     }
 }
 
-// A line that is in place, by its letter.
+// A line that is in place, by its letter. Plain stages, and in each the letter, are a form that the project keeps.
 fn in_place(stage: Stage, letter: char, fields: &[u8]) -> Option<Entry>
     ensures { result ≡ entry_in stage letter fields.now }
 {

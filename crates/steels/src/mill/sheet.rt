@@ -63,7 +63,7 @@ fn try_points(points: &[Point]) -> Result<(), Refusal>
     try_each_point(points)
 }
 
-// The first point at fault decides, and at it the smaller number.
+// The first point at fault decides, and at it the smaller number. A loop and no `position`, since each point is held against the one before it.
 fn try_each_point(points: &[Point]) -> Result<(), Refusal>
     ensures { option_map refused (result_err result) ≡ point_fault 0 None points.now }
 {

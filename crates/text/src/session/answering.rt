@@ -16,7 +16,7 @@ use member_check::{Figures, Member};
 use steels::Carbon;
 use trial::{Answer, Call, Question, Sheet};
 
-// The letter of a call's line.
+// The letter of a call's line. A call is a value, so its kind is matched.
 fn letter(call: Call) -> char
     ensures value { result ≡ letter_of call }
     ensures ascii { result < 128 }

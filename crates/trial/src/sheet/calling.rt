@@ -9,6 +9,7 @@ use crate::sheet::Sheet;
 use fires::Fire;
 use steels::Steel;
 
+// Questions and calls are values, kept in logs and scripts, so they are matched and no closures are taken.
 impl<S: Steel, F: Fire> Sheet<S, F> {
     pub fn ask(&self, question: Question) -> Answer
         ensures { result ≡ told_by (view_of S.Steel F.Fire self.now) question }

@@ -95,6 +95,7 @@ impl<S: Steel, F: Fire> Sheet<S, F> {
         ensures stop { result.1 ≡ heat_stop (view_of S.Steel F.Fire self.old) asked }
         ensures after { Same (after_heat (view_of S.Steel F.Fire self.old) asked) (view_of S.Steel F.Fire self.new) }
     {
+        // The count is the answer, so the loop is over it.
         for made in 0..asked {
             match self.next() {
                 Ok(temperature) => self.column.add(temperature),

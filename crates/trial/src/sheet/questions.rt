@@ -30,7 +30,7 @@ impl<S: Steel, F: Fire> Sheet<S, F> {
         self.column.hottest()
     }
 
-    // The critical temperature under the load, in degrees.
+    // The critical temperature under the load, in degrees; a number as in `member_check`, and never 19 here.
     pub fn critical_temperature(&self) -> u32
         ensures { result ≡ critical_in (view_of S.Steel F.Fire self.now) }
     {
