@@ -19,7 +19,7 @@ pub fn passes<S: Steel>(member: &Member, steel: &S, load: u64, degree: u32) -> b
 
 // The greatest whole degree from 20 to 1,200 at which the member passes, 19 if there is none.
 // It halves the degrees left: once a member fails, it passes at no higher degree.
-// By hand: std halves a slice (partition_point) and no range, and a `find` down the range asks the steel 1,181 times, not eleven.
+// By hand: std's `partition_point` halves slices alone, and a `find` down the range asks the steel up to 1,181 times, not eleven.
 pub fn critical_temperature<S: Steel>(member: &Member, steel: &S, load: u64) -> u32
     ensures value { result ≡ critical_of (figures_of member.now) (S.Steel.factor steel.now Strength) (S.Steel.factor steel.now Stiffness) load }
     ensures parts { Critical (figures_of member.now) (S.Steel.factor steel.now Strength) (S.Steel.factor steel.now Stiffness) load result }
