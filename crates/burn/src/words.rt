@@ -45,9 +45,7 @@ impl fmt::Display for Answered {
             Answer::Heated {
                 made,
                 stop: Some(stop),
-            } => {
-                write!(f, "{made} made, then stopped by {}: {stop}", stop.number())
-            }
+            } => { write!(f, "{made} made, then stopped by {}: {stop}", stop.number()) }
             Answer::Done(Ok(())) => f.write_str("accepted"),
             Answer::Done(Err(refusal)) => write!(f, "refused, {}: {refusal}", refusal.number()),
             Answer::Temperature(Some(temperature)) | Answer::Hottest(temperature) => {
