@@ -35,8 +35,8 @@ POINTS = [
     (5, "several facts in one clause", r"(requires|ensures)( \w+)? \{.*×.*\}"),
     (5, "both factors of a steel side by side in a clause", r"S\.Steel\.strength \w+(\.\w+)+\) \(S\.Steel\.stiffness"),
     (5, "a sheet's view written out in a clause", r"view_of S\.Steel F\.Fire"),
-    (6, "a buffer with a length beside it", r"^\s*\w+: \[(u8|u32|Point); \d+\],"),
-    (7, "a choice of what to run", r"match (column|call|question|letter|stage|self\.stage) \{|=> match letter \{"),
+    (6, "a buffer with a length beside it", r"^\s*\w+: \[(u8|u32|Point); \w+\],"),
+    (7, "a choice of what to run", r"match (column|reduction|call|question|letter|stage|self\.stage) \{|=> match letter \{"),
 ]
 
 

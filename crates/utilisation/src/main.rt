@@ -122,6 +122,7 @@ const WORDS: [u8; 10] = [0x80, 0x01, 0x7f, 0xff, 0x03, 0xe8, 0xff, 0xfd, 0x80, 0
 fn print_record(rt: &impl Print) -> anyhow::Result<()> {
     let mut record = GaugeRecord::new();
     record.read(&WORDS)?;
+    // A fire is asked by the number of a step; the one behind the last is asked too.
     for step in 0..=record.step_count() {
         let flux = Told(record.reading_at(step, 20_000));
         println!(rt; "{step:4}  {flux:>7}")?;

@@ -41,6 +41,7 @@ fn curve_of(given: &[u32]) -> Result<GasCurve, Refusal>
     ensures fault { option_map refused (result_err result) ≡ gas_fault given.now }
     ensures taken { IfOk result (λ curve. temperatures_of curve ≡ given.now) }
 {
+    // No `?` here: the vector's own error says only that it is full.
     let Ok(temperatures) = ArrayVec::try_from(given) else {
         return Err(Refusal::GasTemperature { step: MOST_STEPS });
     };

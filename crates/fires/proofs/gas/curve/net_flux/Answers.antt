@@ -1,14 +1,9 @@
-use Rattle.std.proofs.Common.{◌≡◌, ℕ, ◌+◌, ◌^◌, ◌≤◌, ℤ, pos, ◌-ℤ◌, ◌*ℤ◌, ap, ◌∙◌, arith, w64, to_z, of_z}
+use Rattle.std.proofs.Common.{◌≡◌, ◌+◌, ◌^◌, ℤ, pos, ◌-ℤ◌, ◌*ℤ◌, ap, ◌∙◌, arith}
 use Rattle.rounding.specs.Quotient.{rounded_up}
 use Rattle.std.proofs.lemmas.Int.{ints}
-use Rattle.fires.specs.GasLaws.{fourth_most, radiation_within}
+use Rattle.fires.specs.GasLaws.{fourth_most, powers_apart, radiation_within}
 use Rattle.fires.specs.Meaning.{Within}
 use Rattle.fires.proofs.gas.curve.net_flux.Goals as goal
-
--- the difference of two fourth powers, as the code has it
-powers_apart : (a b : ℤ) (m n : ℕ) → a ≡ pos m → b ≡ pos n → m ≤ 1473 ^ 4 → n ≤ 1473 ^ 4
-    → to_z w64 (of_z w64 (to_z w64 (of_z w64 a) -ℤ to_z w64 (of_z w64 b))) ≡ pos m -ℤ pos n
-powers_apart a b m n p q h k = omega (arith, ints)
 
 pub radiation-requires : goal.radiation-requires
 radiation-requires c =
