@@ -151,13 +151,11 @@ fn temperature_at<S: Steel, F: Fire>(sheet: &mut Sheet<S, F>, step: usize) -> Op
     }
 }
 
-const MOST_STEPS: usize = 4096;
-
 // Prints every tenth step with its temperature, as far as they stand.
 fn print_course<S: Steel, F: Fire>(rt: &impl Print, sheet: &mut Sheet<S, F>) -> anyhow::Result<()>
     ensures { Same (view_of S.Steel F.Fire sheet.old) (view_of S.Steel F.Fire sheet.new) }
 {
-    for step in (0..=MOST_STEPS).step_by(10) {
+    for step in (0..).step_by(10) {
         let Some(temperature) = temperature_at(sheet, step) else {
             break;
         };
