@@ -42,7 +42,7 @@ fn factors_at<S: Steel>(steel: &S, degree: u32) -> Factors
     }
 }
 
-// n / d, rounded up.
+// n / d, rounded up. Both casts are proved to fit, so no `try_from`.
 fn quotient(n: u64, d: u64) -> u64
     requires { n ≤ 10000000000000 }
     ensures { result ≡ ceil n d }

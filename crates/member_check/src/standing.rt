@@ -8,7 +8,7 @@ use crate::checked::Member;
 use crate::demand::Demand;
 use steels::Steel;
 
-// Whether the member carries the load in the steel at the degree.
+// Whether the member carries the load in the steel at the degree. The clauses name both factors apart, as the definitions and theorems do.
 pub fn passes<S: Steel>(member: &Member, steel: &S, load: u64, degree: u32) -> bool
     ensures value { result ≡ passes_at (figures_of member.now) (S.Steel.factor steel.now Strength) (S.Steel.factor steel.now Stiffness) load degree }
     ensures below { PassesBelow }

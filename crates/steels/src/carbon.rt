@@ -116,7 +116,7 @@ impl Steel for Carbon {
     }
 }
 
-// The formula below 600 degrees, in parts of 10^8 so that all is whole.
+// The formula below 600 degrees, in parts of 10^8 so that all is whole. The quotient is proved to fit, so no `try_from`.
 fn cubic_capacity(degree: u32) -> u32
     requires { degree ≤ 600 }
     ensures { result ≡ cubic degree }

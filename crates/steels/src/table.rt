@@ -47,7 +47,7 @@ impl Tabled for Row {
     }
 }
 
-// The line from one row to a later one, rounded down.
+// The line from one row to a later one, rounded down. It is proved to fit as the factors do, so no `try_from`.
 fn interpolated(reduction: Reduction, from: Row, to: Row, degree: u32) -> u32
     requires from { from.degree ≤ degree }
     requires to { degree < to.degree }

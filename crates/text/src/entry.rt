@@ -55,6 +55,7 @@ fn read_word(fields: &[u8]) -> Option<i16>
 fn read_steps(fields: &[u8]) -> Option<usize>
     ensures { result ≡ steps_in fields.now }
 {
+    // A `usize` has no `From` of 32 bits.
     let steps = u32::try_from(last_field(fields)?).ok()?;
     Some(steps as usize)
 }

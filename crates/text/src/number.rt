@@ -53,7 +53,7 @@ pub fn last_field(text: &[u8]) -> Option<u64>
     lone(text.strip_prefix(b",")?)
 }
 
-// A number that a minus may stand before.
+// A number that a minus may stand before. Ten digits are proved to fit, so no `try_from`.
 fn signed(text: &[u8]) -> Option<i64>
     ensures { result ≡ signed text.now }
 {

@@ -77,7 +77,7 @@ fn radiation(powers: i64) -> i64
     rounding::rounded_up(3969 * powers, 100_000_000_000)
 }
 
-// Convection and radiation together.
+// Convection and radiation together. Their sum is proved to fit, so no `try_from`.
 fn net_flux(gas: Degree, steel: Degree) -> i32
     ensures { result ≡ gas_flux gas.whole steel.whole }
 {

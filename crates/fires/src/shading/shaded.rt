@@ -22,7 +22,7 @@ impl Shading {
         }
     }
 
-    // The part of a flux that reaches the steel, rounded up.
+    // The part of a flux that reaches the steel, rounded up. It is proved to fit as the flux does, so no `try_from`.
     fn part_of(self, flux: i32) -> i32
         ensures { result ≡ rounded_up (flux *ℤ pos (thousandths_of self)) 1000 }
     {

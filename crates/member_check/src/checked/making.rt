@@ -36,6 +36,7 @@ impl Member {
         self.given
     }
 
+    // A range is one fact, so it stays one clause.
     pub fn section_factor(&self) -> u64
         ensures value { result ≡ (figures_of self.now).section_factor }
         ensures range { (10 ≤ result) × (result ≤ 500) }
