@@ -25,6 +25,7 @@ POINTS = [
     (2, "the strength factor and the stiffness factor as twins", r"fn (strength_at|stiffness_at)\(|ghost (strength|stiffness)(_law)?( =|:) \{"),
     (2, "a line of numbers and a line of answers as twins", r"fn (numbers|answers)\(letter"),
     (2, "the same member made in two programs", r"^fn (strut|member)\("),
+    (2, "a public call and an inner function with the same clauses", r"^\s*fn (cold|take_back|replace_load|heated|respond)\("),
     (3, "a loop over indices", r"for \w+ in 0\.\."),
     (3, "a count kept by hand", r"saturating_add\(|while high - low"),
     (3, "a search by a loop over items", r"for \(\w+, \w+\) in \w+\.iter\(\)\.enumerate\(\)"),
