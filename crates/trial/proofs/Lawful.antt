@@ -6,12 +6,13 @@ use Rattle.steels.specs.declared.meaning.Steel as steel
 use Rattle.steels.specs.declared.table.Reduction.{Reduction}
 use Rattle.steels.specs.declared.table.Reduction.TheVariants.{Stiffness, Strength}
 use Rattle.fires.specs.declared.meaning.Fire as fire
+use Rattle.member_check.specs.declared.checked.Member.{Member}
 use Rattle.trial.specs.Parts.{Parts}
 use Rattle.trial.specs.Questions.{fails, hottest}
 use Rattle.trial.specs.Course.{entry, end}
-use Rattle.trial.specs.Views.{Same, View, new_view, view_of}
+use Rattle.trial.specs.Views.{Same, View, new_view, parts_of, view_of}
 use Rattle.trial.specs.Answers.{carried_cold, critical_under}
-use Rattle.trial.specs.Calls.{after_heat, hottest_in}
+use Rattle.trial.specs.Calls.{after, after_heat, hottest_in, reply}
 use Rattle.trial.specs.Tally.{Tally, answer, start, tallied, tally}
 use Rattle.trial.specs.Law.{Follows, Equal, AsHeatedAtOnce, Highest, Lowest, Verdict, Law, Lawful}
 use Rattle.trial.specs.declared.call.Answer.{Answer}
@@ -24,7 +25,6 @@ use Rattle.trial.proofs.Tallies.{counted_is, tally_sound}
 use Rattle.trial.proofs.Failing.{critical_in_parts, fails_above}
 use Rattle.trial.proofs.Runs.{goes_on, made, starts}
 use Rattle.trial.proofs.Alike.{same_refl}
-use Rattle.trial.proofs.Settled.{Answered}
 use Rattle.trial.proofs.Stopped.{course}
 use Rattle.trial.proofs.Outlasting.{outlasts}
 
@@ -101,29 +101,31 @@ module _ (calls : List Call) (v : View) (h : Follows v.parts calls v) where
 own : (p : Parts) (calls : List Call) (v : View) → Follows p calls v → Follows v.parts calls v
 own p calls v h = subst (λ q. Follows q calls v) (sym h.parts) h
 
-law_holds : (p : Parts) (calls : List Call) (v : View) → Factor v.parts.strength → Factor v.parts.stiffness → Follows p calls v → Law p calls v
+law_holds : (p : Parts) (calls : List Call) (v : View) → Factor p.strength → Factor p.stiffness → Follows p calls v → Law p calls v
 law_holds p calls v fy fz h = record {
   course = course p;
   follows = h;
   at_once = at_once calls v (own p calls v h);
-  verdict = verdict calls v (own p calls v h) fy fz;
+  verdict = verdict calls v (own p calls v h) (subst (λ q. Factor q.strength) (sym h.parts) fy) (subst (λ q. Factor q.stiffness) (sym h.parts) fz);
   outlasts = λ q others w g better. outlasts calls others v w (own p calls v h) (own q others w g) better;
   outlasted = λ q others w g better. outlasts others calls w v (own q others w g) (own p calls v h) better;
 }
 
+-- what a call owes when it returns
+abbrev Answered : View → Call → Answer → View → Type 0
+Answered v c r w = record { answer : r ≡ reply v c; after : Same (after v c) w }
+
 -- so for sheets over any steel and fire
 module _ {S F : Type 0} (s : steel.Ghosts S) (f : fire.Ghosts F) (factors : (x : S) (r : Reduction) → Factor (s.factor x r)) where
-  pub law_starts : (p : Parts) (sheet : Sheet S F) → Same (new_view p) (view_of s f sheet) → Law p [] (view_of s f sheet)
-  law_starts p sheet new =
-      let v = view_of s f sheet in
-      law_holds p [] v (factors sheet.steel Strength) (factors sheet.steel Stiffness)
+  pub law_starts : (member : Member) (its_steel : S) (its_fire : F) (v : View) → let p = parts_of s f member its_steel its_fire in Same (new_view p) v → Law p [] v
+  law_starts member its_steel its_fire v new =
+      law_holds _ [] v (factors its_steel Strength) (factors its_steel Stiffness)
       (subst (λ q. Follows q [] v) new.parts (starts v new.standing new.load (new.temperature 0 (omega arith))))
 
-  pub lawful : (old new : Sheet S F) (c : Call) (r : Answer) → Answered (view_of s f old) c r (view_of s f new) → Lawful (view_of s f old) c r (view_of s f new)
-  lawful old new c r done p calls h =
+  pub lawful : (old : Sheet S F) (c : Call) (r : Answer) (w : View) → Answered (view_of s f old) c r w → Lawful (view_of s f old) c r w
+  lawful old c r w done p calls h =
       let v = view_of s f old in
-      let w = view_of s f new in
       let on = goes_on calls v w c (own p calls v h) done.after in (
         done.answer ∙ (on.0 ∙ ap (λ q. answer q (tally q calls) c) h.parts),
-        law_holds p _ w (factors new.steel Strength) (factors new.steel Stiffness) (subst (λ q. Follows q (calls ++ (c ∷ [])) w) h.parts on.1),
+        subst (λ q. Law q (calls ++ (c ∷ [])) w) h.parts (law_holds v.parts _ w (factors old.steel Strength) (factors old.steel Stiffness) on.1),
       )

@@ -3,7 +3,6 @@ pub mod First
 pub mod Courses
 pub mod Failing
 pub mod Heats
-pub mod Settled
 pub mod Stopped
 pub mod Tallies
 pub mod Runs

@@ -1,5 +1,4 @@
-// One member in a fire. A public call with the law on its contract hands on to an inner function, so that a wrong edit in the work itself is
-// refused by a fact of the code and not at the proof of the law.
+// One member in a fire. On the contract of a public call the clause `law` follows from the other clauses, each of them a goal of its own.
 mod calling;
 mod heating;
 mod keeping;

@@ -25,9 +25,11 @@ impl<S: Steel, F: Fire> Sheet<S, F> {
         }
     }
 
-    fn respond(&mut self, call: Call) -> Answer
+    // Makes a call and answers it. Whatever calls were made before, the answer is the tally's, and then the law over runs holds.
+    pub fn call(&mut self, call: Call) -> Answer
         ensures answer { result ≡ reply (view_of S.Steel F.Fire self.old) call }
         ensures after { Same (after (view_of S.Steel F.Fire self.old) call) (view_of S.Steel F.Fire self.new) }
+        ensures law { Lawful (view_of S.Steel F.Fire self.old) call result (view_of S.Steel F.Fire self.new) }
     {
         match call {
             Call::Heat(asked) => {
@@ -38,14 +40,5 @@ impl<S: Steel, F: Fire> Sheet<S, F> {
             Call::Load(load) => Answer::Done(self.load(load)),
             Call::Ask(question) => self.ask(question),
         }
-    }
-
-    // Makes a call and answers it. Whatever calls were made before, the answer is the tally's, and then the law over runs holds.
-    pub fn call(&mut self, call: Call) -> Answer
-        ensures answer { result ≡ reply (view_of S.Steel F.Fire self.old) call }
-        ensures after { Same (after (view_of S.Steel F.Fire self.old) call) (view_of S.Steel F.Fire self.new) }
-        ensures law { Lawful (view_of S.Steel F.Fire self.old) call result (view_of S.Steel F.Fire self.new) }
-    {
-        self.respond(call)
     }
 }

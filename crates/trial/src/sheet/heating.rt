@@ -105,14 +105,6 @@ impl<S: Steel, F: Fire> Sheet<S, F> {
         (asked, None)
     }
 
-    fn heated(&mut self, asked: usize) -> (usize, u32)
-        ensures answer { result ≡ heat_answer (view_of S.Steel F.Fire self.old) asked }
-        ensures after { Same (after_heat (view_of S.Steel F.Fire self.old) asked) (view_of S.Steel F.Fire self.new) }
-    {
-        let (made, stop) = self.make_steps(asked);
-        (made, stop.map_or(0, |stop| stop.number()))
-    }
-
     // Heats by the steps asked for: how many were made, and the number of what stopped the next, 0 if all were made.
     // A pair of plain numbers is a form that the project keeps; `call` answers with the stop itself.
     pub fn heat(&mut self, asked: usize) -> (usize, u32)
@@ -120,6 +112,7 @@ impl<S: Steel, F: Fire> Sheet<S, F> {
         ensures after { Same (after_heat (view_of S.Steel F.Fire self.old) asked) (view_of S.Steel F.Fire self.new) }
         ensures law { Lawful (view_of S.Steel F.Fire self.old) (Heat asked) (reply (view_of S.Steel F.Fire self.old) (Heat asked)) (view_of S.Steel F.Fire self.new) }
     {
-        self.heated(asked)
+        let (made, stop) = self.make_steps(asked);
+        (made, stop.map_or(0, |stop| stop.number()))
     }
 }

@@ -17,8 +17,10 @@ use member_check::{Member, passes};
 use steels::Steel;
 
 impl<S: Steel, F: Fire> Sheet<S, F> {
-    fn cold(member: Member, steel: S, fire: F) -> Sheet<S, F>
-        ensures { Same (new_view (parts_of S.Steel F.Fire member steel fire)) (view_of S.Steel F.Fire result) }
+    // A sheet with no steps after step 0 and no load.
+    pub fn new(member: Member, steel: S, fire: F) -> Sheet<S, F>
+        ensures made { Same (new_view (parts_of S.Steel F.Fire member steel fire)) (view_of S.Steel F.Fire result) }
+        ensures law { Law (parts_of S.Steel F.Fire member steel fire) [] (view_of S.Steel F.Fire result) }
     {
         Sheet {
             member,
@@ -29,26 +31,6 @@ impl<S: Steel, F: Fire> Sheet<S, F> {
         }
     }
 
-    // A sheet with no steps after step 0 and no load.
-    pub fn new(member: Member, steel: S, fire: F) -> Sheet<S, F>
-        ensures made { Same (new_view (parts_of S.Steel F.Fire member steel fire)) (view_of S.Steel F.Fire result) }
-        ensures law { Law (parts_of S.Steel F.Fire member steel fire) [] (view_of S.Steel F.Fire result) }
-    {
-        Sheet::cold(member, steel, fire)
-    }
-
-    fn take_back(&mut self, steps: usize) -> Result<(), Refusal>
-        ensures fault { option_map refused (result_err result) ≡ back_fault (view_of S.Steel F.Fire self.old).standing steps }
-        ensures taken { OnOk result (Same (after_back (view_of S.Steel F.Fire self.old) steps) (view_of S.Steel F.Fire self.new)) }
-        ensures kept { is_ok result ≡ false → self.new ≡ self.old }
-    {
-        if steps > self.column.standing() {
-            return Err(Refusal::BackBeyondStart);
-        }
-        self.column.cut(steps);
-        Ok(())
-    }
-
     // Takes the last steps away, or refuses and changes nothing.
     pub fn back(&mut self, steps: usize) -> Result<(), Refusal>
         ensures fault { option_map refused (result_err result) ≡ back_fault (view_of S.Steel F.Fire self.old).standing steps }
@@ -56,18 +38,10 @@ impl<S: Steel, F: Fire> Sheet<S, F> {
         ensures kept { is_ok result ≡ false → self.new ≡ self.old }
         ensures law { Lawful (view_of S.Steel F.Fire self.old) (Back steps) (Done result) (view_of S.Steel F.Fire self.new) }
     {
-        self.take_back(steps)
-    }
-
-    fn replace_load(&mut self, load: u64) -> Result<(), Refusal>
-        ensures fault { option_map refused (result_err result) ≡ load_fault (view_of S.Steel F.Fire self.old).parts load }
-        ensures taken { OnOk result (Same (after_load (view_of S.Steel F.Fire self.old) load) (view_of S.Steel F.Fire self.new)) }
-        ensures kept { is_ok result ≡ false → self.new ≡ self.old }
-    {
-        if !passes(&self.member, &self.steel, load, 20) {
-            return Err(Refusal::NotCarriedCold);
+        if steps > self.column.standing() {
+            return Err(Refusal::BackBeyondStart);
         }
-        self.load = load;
+        self.column.cut(steps);
         Ok(())
     }
 
@@ -78,6 +52,10 @@ impl<S: Steel, F: Fire> Sheet<S, F> {
         ensures kept { is_ok result ≡ false → self.new ≡ self.old }
         ensures law { Lawful (view_of S.Steel F.Fire self.old) (Load load) (Done result) (view_of S.Steel F.Fire self.new) }
     {
-        self.replace_load(load)
+        if !passes(&self.member, &self.steel, load, 20) {
+            return Err(Refusal::NotCarriedCold);
+        }
+        self.load = load;
+        Ok(())
     }
 }

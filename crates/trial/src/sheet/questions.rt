@@ -37,14 +37,8 @@ impl<S: Steel, F: Fire> Sheet<S, F> {
         critical_temperature(&self.member, &self.steel, self.load)
     }
 
-    // The critical temperature in millidegrees.
-    fn limit(&self) -> u32
-        ensures { result ≡ 1000 * critical_in (view_of S.Steel F.Fire self.now) }
-    {
-        1000 * self.critical_temperature()
-    }
-
     // A step fails exactly where it is above the critical temperature, so that need be asked for only once.
+    // Apart from `first_failing`, so that a wrong limit is refused at this `requires`.
     fn first_above(&self, limit: u32) -> Option<usize>
         requires { limit ≡ 1000 * critical_in (view_of S.Steel F.Fire self.now) }
         ensures { result ≡ first_failing_in (view_of S.Steel F.Fire self.now) }
@@ -56,6 +50,6 @@ impl<S: Steel, F: Fire> Sheet<S, F> {
     pub fn first_failing(&self) -> Option<usize>
         ensures { result ≡ first_failing_in (view_of S.Steel F.Fire self.now) }
     {
-        self.first_above(self.limit())
+        self.first_above(1000 * self.critical_temperature())
     }
 }
