@@ -34,7 +34,7 @@ fn inertia(capacity: u32) -> u64
     u64::from(capacity) * 7850
 }
 
-// The rise in millidegrees, rounded up for gain and loss.
+// The rise in millidegrees, rounded up for gain and loss. Exposure is proved to fit, and so is the end of a step below, so no `try_from`.
 fn rise(member: &Member, capacity: u32, flux: i32) -> i64
     requires least { 300 ≤ capacity }
     requires most { capacity ≤ 6000 }
