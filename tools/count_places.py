@@ -32,12 +32,12 @@ POINTS = [
     (4, "a widening by `as`", r"\bas (u64|i64|i32)\b"),
     (4, "a range tested by hand", r"\w+ < 21 \|\| |\d+ <= \w+ && \w+ <= \d+|low <= x && x <= high|count < 1 \|\| "),
     (4, "degrees with three decimals, put together by hand", r"% 1000;"),
-    (4, "a test of a variant, or an Option's method, by hand", r"=> true,$|=> Some\(value\),$"),
+    (4, "a test of a variant, or an Option's method, by hand", r"=> true,$|_ => Some\(value\),$"),
     (5, "several facts in one clause", r"(requires|ensures)( \w+)? \{.*×.*\}"),
-    (5, "both factors of a steel side by side in a clause", r"S\.Steel\.strength \w+(\.\w+)+\) \(S\.Steel\.stiffness"),
+    (5, "both factors of a steel side by side in a clause", r"S\.Steel\.(strength|factor) \w+(\.\w+)+( Strength)?\) \(S\.Steel\.(stiffness|factor)"),
     (5, "a sheet's view written out in a clause", r"view_of S\.Steel F\.Fire"),
     (6, "a buffer with a length beside it", r"^\s*\w+: \[(u8|u32|Point); \w+\],"),
-    (7, "a choice of what to run", r"match (column|reduction|call|question|letter|stage|self\.stage) \{|=> match letter \{"),
+    (7, "a choice of what to run", r"match (column|reduction|call|question|letter|stage|self\.stage|self\.state|&mut self\.state) \{|=> match letter \{"),
 ]
 
 

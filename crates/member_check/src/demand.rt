@@ -92,7 +92,7 @@ impl Demand {
             && self.imperfection * self.strength * self.buckling * y * z <= 100 * (u * u) * (v * v)
     }
 
-    // Whether the member carries its load in the steel at the degree.
+    // Whether the member carries its load in the steel at the degree. The clause names both factors apart, as the definitions and theorems do.
     #[tactic(auto, using(crate::proofs::Kept::reckoned))]
     pub fn passes_at<S: Steel>(&self, steel: &S, degree: u32) -> bool
         ensures value { result ≡ passes_at (figures_of self.now.member) (S.Steel.factor steel.now Strength) (S.Steel.factor steel.now Stiffness) self.now.load degree }

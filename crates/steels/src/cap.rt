@@ -3,7 +3,7 @@ pub mod capped;
 
 ghost use Rattle.std.specs.Prelude.{◌≤◌};
 
-// From 21 to 1,200.
+// From 21 to 1,200. A type for any bounds would still want this name, a refusal and a `new` here.
 #[derive(Clone, Copy)]
 pub struct Cap {
     degree: u32,

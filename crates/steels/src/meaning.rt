@@ -16,6 +16,7 @@ pub trait Steel {
     fn factor_at(&self, reduction: Reduction, degree: u32) -> u32
         ensures { result ≡ factor self.now reduction degree };
 
+    // Each factor by its name, for callers; no steel writes these two.
     fn strength_at(&self, degree: u32) -> u32
         ensures { result ≡ factor self.now Strength degree }
     {

@@ -31,7 +31,7 @@ impl Row {
 }
 
 // An entry of a table: a row, alone or with more beside it.
-// Not std's `From<P> for Row`: that says which rows are right, and the contracts name the one list `map row`.
+// Not std's `From<P> for Row`: of that a contract has only a relation, and here the contracts name the rows of a table as one list, by a function.
 pub trait Tabled {
     ghost row: { Self → Row };
 
@@ -58,7 +58,7 @@ fn interpolated(reduction: Reduction, from: Row, to: Row, degree: u32) -> u32
     ((cold + hot) / u64::from(to.degree - from.degree)) as u32
 }
 
-// The broken line from the first row on.
+// The broken line from the first row on. A table read row by row is a form that the project keeps; it has 13 rows, or at most 64 points.
 fn along<P: Tabled>(reduction: Reduction, first: Row, rest: &[P], degree: u32) -> u32
     requires { first.degree ≤ degree }
     ensures { result ≡ line reduction first (map P.Tabled.row rest.now) degree }
@@ -79,6 +79,7 @@ pub(crate) fn factor_at<P: Tabled>(reduction: Reduction, table: &[P], degree: u3
     requires { Sound (map P.Tabled.row table.now) }
     ensures { result ≡ tabled reduction (map P.Tabled.row table.now) degree }
 {
+    // A sound table has rows; of none the definition says 0.
     let [first, rest @ ..] = table else {
         return 0;
     };

@@ -23,10 +23,7 @@ const MOST_BYTES: usize = 80;
 fn unless_zero(value: u64) -> Option<u64>
     ensures { result ≡ unless_zero value }
 {
-    match value {
-        0 => None,
-        _ => Some(value),
-    }
+    (value != 0).then_some(value)
 }
 
 fn read_figures(fields: &[u8]) -> Option<Figures>

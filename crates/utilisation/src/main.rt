@@ -32,7 +32,7 @@ impl fmt::Display for Degree {
     }
 }
 
-// The critical temperature at a utilisation in hundredths of a cold strength of 1,000,000.
+// The critical temperature at a utilisation in hundredths of a cold strength of 1,000,000. The clause names both factors apart, as the definition does.
 fn critical<S: Steel>(member: &Member, steel: &S, hundredths: u32) -> Degree
     ensures { result.0 ≡ critical_of (figures_of member.now) (S.Steel.factor steel.now Strength) (S.Steel.factor steel.now Stiffness) (10000 * hundredths) }
 {

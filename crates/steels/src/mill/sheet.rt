@@ -15,6 +15,7 @@ use crate::refusal::Refusal;
 use crate::table::{Reduction, clamp, factor_at};
 use arrayvec::ArrayVec;
 
+// A point is tried against the one before it, if there is one; the two are no pair elsewhere.
 impl Point {
     // Of such points a sheet is made before any are read.
     fn full(degree: u32) -> Point
@@ -123,7 +124,7 @@ fn capacity_of(points: &[Point], degree: u32) -> u32
     last_capacity(first.capacity, rest, clamp(degree))
 }
 
-// The heat capacity of the last point that is not above the degree.
+// The heat capacity of the last point that is not above the degree. A loop: `take_while` and `last` wanted more lemmas for the same.
 fn last_capacity(first: u32, rest: &[Point], degree: u32) -> u32
     ensures { result ≡ capacity_from first rest.now degree }
 {
