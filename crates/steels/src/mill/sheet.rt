@@ -118,6 +118,7 @@ impl MillSheet {
 fn capacity_of(points: &[Point], degree: u32) -> u32
     ensures { result ≡ sheet_capacity points.now degree }
 {
+    // Points in hand are never none; of none the definition says 0.
     let [first, rest @ ..] = points else {
         return 0;
     };
