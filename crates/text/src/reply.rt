@@ -1,20 +1,23 @@
 // Replies written field by field.
 ghost use Rattle.std.specs.Prelude.{◌≡◌, ℕ, ◌+◌, ◌<◌, ◌≤◌, List, [], ◌∷◌, ◌++◌, length, codes};
 ghost use Rattle.std.specs.List.{flat_map};
-ghost use Rattle.text.specs.Replies.{size_of, text_of};
+ghost use Rattle.arrayvec.specs.ArrayString.{array_string_len};
 ghost use Rattle.text.specs.Spoken.{fields_of, spoken, told};
 
 use arrayvec::ArrayString;
 use itoa::{Buffer, Integer};
 use trial::Answer;
 
-// The text of one answer, its line feed within; none for a line that is taken in silence.
+// The text of one line, its line feed within; none for a line that is taken in silence.
 #[derive(Clone, Copy)]
 pub struct Reply {
     text: ArrayString<176>,
+    ghost fits: { array_string_len text ≤ 176 },
 }
 
 impl Reply {
+    ghost use Rattle.text.specs.Replies.{size_of, text_of};
+
     // A reply that says nothing.
     pub fn silent() -> Reply
         ensures text { text_of result ≡ [] }
@@ -69,6 +72,8 @@ impl Reply {
 
 // What a reply can say: one field or two.
 pub(crate) trait Spoken {
+    ghost use Rattle.text.specs.Replies.{size_of, text_of};
+
     ghost fields: { Self → List ℕ };
 
     fn push_to(&self, reply: &mut Reply)
