@@ -35,7 +35,7 @@ impl Reply {
         self.text.as_str().as_bytes()
     }
 
-    // A comma and a number.
+    // A comma and a number. Room stands in each call's clause: only the caller knows how many fields follow.
     fn push_number<I: Integer>(&mut self, number: I)
         requires room { size_of self.old + 21 ≤ 176 }
         requires short { I.MAX_STR_LEN ≤ 20 }
@@ -46,6 +46,7 @@ impl Reply {
         self.text.push_str(Buffer::new().format(number));
     }
 
+    // A comma and the word for an absent number, within the room of one field.
     fn push_none(&mut self)
         requires { size_of self.old + 21 ≤ 176 }
         ensures text { text_of self.new ≡ text_of self.old ++ (44 ∷ codes "none") }
@@ -76,6 +77,7 @@ pub(crate) trait Spoken {
 
     ghost fields: { Self → List ℕ };
 
+    // At most two fields: their room stands here too, since the reply does not know what follows.
     fn push_to(&self, reply: &mut Reply)
         requires { size_of reply.old + 42 ≤ 176 }
         ensures text { text_of reply.new ≡ text_of reply.old ++ fields self.now }
