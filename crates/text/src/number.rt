@@ -1,7 +1,8 @@
 // Numbers in a line, read from its bytes.
-ghost use Rattle.std.specs.Prelude.{◌≡◌, ◌<◌, ◌≤◌, length, IfSome};
+ghost use Rattle.std.specs.Prelude.{◌≡◌, ◌<◌, ◌≤◌, length, None, IfSome, MatchOption};
+ghost use Rattle.std.specs.Fn.{FnOnceReturnsAt};
 ghost use Rattle.std.specs.Option.{option_map};
-ghost use Rattle.text.specs.Numbers.{digits_in, field, last_field, last_signed_field, lone, number, signed};
+ghost use Rattle.text.specs.Numbers.{after, digits_in, field, last_field, last_signed_field, lone, number, signed};
 
 use std::str;
 
@@ -39,18 +40,26 @@ fn lone(text: &[u8]) -> Option<u64>
     }
 }
 
+// What is read from all that follows a comma.
+fn after_comma<'a, T, F: FnOnce(&'a [u8]) -> Option<T>>(text: &'a [u8], read: F) -> Option<T>
+    requires { F.IsAlwaysCallable read }
+    ensures { MatchOption (after 44 text.now) (result ≡ None) (λ rest. FnOnceReturnsAt F.FnOnce read rest result) }
+{
+    read(text.strip_prefix(b",")?)
+}
+
 // A field that more fields may follow: its number, and what follows it.
 pub fn field(text: &[u8]) -> Option<(u64, &[u8])>
     ensures { option_map (λ x. (x.0, x.1.now)) result ≡ field text.now }
 {
-    number(text.strip_prefix(b",")?)
+    after_comma(text, number)
 }
 
 // The last field.
 pub fn last_field(text: &[u8]) -> Option<u64>
     ensures { result ≡ last_field text.now }
 {
-    lone(text.strip_prefix(b",")?)
+    after_comma(text, lone)
 }
 
 // A number that a minus may stand before. Ten digits are proved to fit, so no `try_from`.
@@ -67,5 +76,5 @@ fn signed(text: &[u8]) -> Option<i64>
 pub fn last_signed_field(text: &[u8]) -> Option<i64>
     ensures { result ≡ last_signed_field text.now }
 {
-    signed(text.strip_prefix(b",")?)
+    after_comma(text, signed)
 }

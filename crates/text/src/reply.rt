@@ -1,20 +1,23 @@
 // Replies written field by field.
 ghost use Rattle.std.specs.Prelude.{◌≡◌, ℕ, ◌+◌, ◌<◌, ◌≤◌, List, [], ◌∷◌, ◌++◌, length, codes};
 ghost use Rattle.std.specs.List.{flat_map};
-ghost use Rattle.text.specs.Replies.{size_of, text_of};
+ghost use Rattle.arrayvec.specs.ArrayString.{array_string_len};
 ghost use Rattle.text.specs.Spoken.{fields_of, spoken, told};
 
 use arrayvec::ArrayString;
 use itoa::{Buffer, Integer};
 use trial::Answer;
 
-// The text of one answer, its line feed within; none for a line that is taken in silence.
+// The text of one line, its line feed within; none for a line that is taken in silence.
 #[derive(Clone, Copy)]
 pub struct Reply {
     text: ArrayString<176>,
+    ghost fits: { array_string_len text ≤ 176 },
 }
 
 impl Reply {
+    ghost use Rattle.text.specs.Replies.{size_of, text_of};
+
     // A reply that says nothing.
     pub fn silent() -> Reply
         ensures text { text_of result ≡ [] }
@@ -32,7 +35,7 @@ impl Reply {
         self.text.as_str().as_bytes()
     }
 
-    // A comma and a number.
+    // A comma and a number. Room stands in each call's clause: only the caller knows how many fields follow.
     fn push_number<I: Integer>(&mut self, number: I)
         requires room { size_of self.old + 21 ≤ 176 }
         requires short { I.MAX_STR_LEN ≤ 20 }
@@ -43,6 +46,7 @@ impl Reply {
         self.text.push_str(Buffer::new().format(number));
     }
 
+    // A comma and the word for an absent number, within the room of one field.
     fn push_none(&mut self)
         requires { size_of self.old + 21 ≤ 176 }
         ensures text { text_of self.new ≡ text_of self.old ++ (44 ∷ codes "none") }
@@ -69,8 +73,11 @@ impl Reply {
 
 // What a reply can say: one field or two.
 pub(crate) trait Spoken {
+    ghost use Rattle.text.specs.Replies.{size_of, text_of};
+
     ghost fields: { Self → List ℕ };
 
+    // At most two fields: their room stands here too, since the reply does not know what follows.
     fn push_to(&self, reply: &mut Reply)
         requires { size_of reply.old + 42 ≤ 176 }
         ensures text { text_of reply.new ≡ text_of reply.old ++ fields self.now }

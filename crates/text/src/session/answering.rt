@@ -1,12 +1,10 @@
 // Lines answered one by one.
 ghost use Rattle.std.specs.Prelude.{◌≡◌, ◌<◌};
-ghost use Rattle.member_check.specs.Members.{figures_of};
-ghost use Rattle.fires.specs.Gauge.{bytes_of};
 ghost use Rattle.text.specs.Replies.{text_of};
-ghost use Rattle.text.specs.Turns.{awaiting, entry_turn, first_turn, is_refused, reading, stage_of, summary};
-ghost use Rattle.text.specs.Views.{SameState, lines_of, seen, state_of, views};
+ghost use Rattle.text.specs.Turns.{awaiting, entry_turn, is_refused, stage_of, summary};
+ghost use Rattle.text.specs.Views.{SameState, lines_of, seen, state_by, state_of, views};
 ghost use Rattle.text.specs.Spoken.{letter_of};
-ghost use Rattle.text.specs.declared.entry.Entry.TheVariants.{Member as Made, Reading as Read};
+ghost use Rattle.text.specs.declared.entry.Entry.TheVariants.{Call as Called, Member as Made, Reading as Read};
 
 use crate::reply::Reply;
 use crate::session::{Session, State};
@@ -72,33 +70,33 @@ impl Session {
             State::Open(_) => Stage::Open,
         }
     }
+}
 
+impl State {
     fn take_member(&mut self, figures: Figures) -> Reply
-        ensures text { text_of result ≡ (entry_turn views (state_of self.old) (Made figures)).0 }
-        ensures after { SameState (entry_turn views (state_of self.old) (Made figures)).1 (state_of self.new) }
-        ensures lines { lines_of self.new ≡ lines_of self.old }
+        ensures text { text_of result ≡ (entry_turn views (state_by self.old) (Made figures)).0 }
+        ensures after { SameState (entry_turn views (state_by self.old) (Made figures)).1 (state_by self.new) }
     {
         match Member::new(figures) {
             Ok(member) => {
-                self.state = State::Readings {
+                *self = State::Readings {
                     member,
                     gauges: GaugeRecord::new(),
                 };
                 Reply::line('M', &[0u64])
             }
             Err(refusal) => {
-                self.state = State::MemberAwaited;
+                *self = State::MemberAwaited;
                 Reply::line('M', &[u64::from(refusal.number())])
             }
         }
     }
 
     fn take_reading(&mut self, word: i16) -> Reply
-        ensures text { text_of result ≡ (entry_turn views (state_of self.old) (Read word)).0 }
-        ensures after { SameState (entry_turn views (state_of self.old) (Read word)).1 (state_of self.new) }
-        ensures lines { lines_of self.new ≡ lines_of self.old }
+        ensures text { text_of result ≡ (entry_turn views (state_by self.old) (Read word)).0 }
+        ensures after { SameState (entry_turn views (state_by self.old) (Read word)).1 (state_by self.new) }
     {
-        match &mut self.state {
+        match self {
             State::Readings { gauges, .. } => match gauges.push(word) {
                 Ok(()) => Reply::silent(),
                 Err(refusal) => Reply::line('R', &[u64::from(refusal.number())]),
@@ -107,18 +105,22 @@ impl Session {
         }
     }
 
-    // The first call makes the sheet, and opens the session with it unless the call is refused.
-    fn first_call(&mut self, member: Member, gauges: GaugeRecord, call: Call) -> Reply
-        requires { state_of self.old ≡ reading (figures_of member) (bytes_of gauges) }
-        ensures text { text_of result ≡ (first_turn views (figures_of member) (bytes_of gauges) call).0 }
-        ensures after { SameState (first_turn views (figures_of member) (bytes_of gauges) call).1 (state_of self.new) }
-        ensures lines { lines_of self.new ≡ lines_of self.old }
+    // The first call makes the sheet, and opens it unless the call is refused.
+    fn take_call(&mut self, call: Call) -> Reply
+        ensures text { text_of result ≡ (entry_turn views (state_by self.old) (Called call)).0 }
+        ensures after { SameState (entry_turn views (state_by self.old) (Called call)).1 (state_by self.new) }
     {
-        let mut sheet = Sheet::new(member, Carbon::new(), gauges);
-        let answer = sheet.call(call);
-        if !is_refused(answer) {
-            self.state = State::Open(sheet);
+        match self {
+            State::MemberAwaited => Reply::silent(),
+            State::Readings { member, gauges } => {
+                let mut sheet = Sheet::new(*member, Carbon::new(), *gauges);
+                let answer = sheet.call(call);
+                if !is_refused(answer) {
+                    *self = State::Open(sheet);
+                }
+                Reply::line(letter(call), &[answer])
+            }
+            State::Open(sheet) => Reply::line(letter(call), &[sheet.call(call)]),
         }
-        Reply::line(letter(call), &[answer])
     }
 }
