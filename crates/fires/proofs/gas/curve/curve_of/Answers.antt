@@ -3,9 +3,8 @@ use Rattle.fires.specs.GasDegrees.{GasDegrees}
 use Rattle.fires.proofs.GasFaults.{fault_at, inside}
 use Rattle.fires.proofs.gas.curve.curve_of.Goals as goal
 
-pub invariant_of-result : goal.invariant_of-result
-invariant_of-result c =
-    record { degrees = subst GasDegrees (sym c.in-Ok.ensures.0) (inside c.args.given.now (sym c.first_outside.ensures ∙ c.in-None.is)) }
+pub invariant_of-result-clause-degrees : goal.invariant_of-result-clause-degrees
+invariant_of-result-clause-degrees c = subst GasDegrees (sym c.in-Ok.ensures.0) (inside c.args.given.now (sym c.first_outside.ensures ∙ c.in-None.is))
 
 pub returns-in-Some-clause-fault : goal.returns-in-Some-clause-fault
 returns-in-Some-clause-fault c = grind (arith, fault_at c.args.given.now c.in-Ok.ensures.1)
