@@ -1,6 +1,7 @@
 // The temperatures of a gas curve.
 pub mod curve;
 
+ghost use Rattle.std.specs.Prelude.{◌≤◌, length};
 ghost use Rattle.fires.specs.GasDegrees.{GasDegree, GasDegrees};
 
 use arrayvec::ArrayVec;
@@ -18,5 +19,6 @@ struct Degree {
 #[derive(Drop)]
 pub struct GasCurve {
     temperatures: ArrayVec<u32, MOST_STEPS>,
+    ghost fits: { length temperatures.items ≤ 4096 },
     ghost degrees: { GasDegrees temperatures.items },
 }

@@ -23,7 +23,7 @@ pub trait Fire {
     fn step_count(&self) -> usize
         ensures { result ≡ steps self.now };
 
-    // The net heat flux into the steel in W/m².
+    // The net heat flux into the steel in W/m². The error is why there is none.
     fn reading_at(&self, step: usize, temperature: u32) -> Result<i32, NoFlux>
         ensures { result ≡ tells self.now step temperature };
 

@@ -4,6 +4,7 @@ pub mod shaded;
 ghost use Rattle.std.specs.Prelude.{◌≤◌};
 
 // A number of thousandths from 1 to 1,000.
+// A type for any bounds would still want this name, a refusal and a `new` here.
 #[derive(Clone, Copy)]
 pub struct Shading {
     thousandths: u32,

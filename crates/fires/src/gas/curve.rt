@@ -37,14 +37,14 @@ impl GasCurve {
 }
 
 // The curve of the temperatures, or why they make none: their number comes first.
+// Private, and no `TryFrom`: from outside, a curve is read into the one in hand.
 fn curve_of(given: &[u32]) -> Result<GasCurve, Refusal>
     ensures fault { option_map refused (result_err result) ≡ gas_fault given.now }
     ensures taken { IfOk result (λ curve. temperatures_of curve ≡ given.now) }
 {
-    // No `?` here: the vector's own error says only that it is full.
-    let Ok(temperatures) = ArrayVec::try_from(given) else {
-        return Err(Refusal::GasTemperature { step: MOST_STEPS });
-    };
+    let temperatures = ArrayVec::try_from(given).map_err(|_| Refusal::GasTemperature {
+        step: MOST_STEPS,
+    })?;
     match first_outside(given) {
         Some(step) => Err(Refusal::GasTemperature { step }),
         None => Ok(GasCurve { temperatures }),
