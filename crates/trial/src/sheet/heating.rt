@@ -35,7 +35,8 @@ fn inertia(capacity: u32) -> u64
     u64::from(capacity) * 7850
 }
 
-// The rise in millidegrees, rounded up for gain and loss. Exposure is proved to fit, and so is the end of a step below, so no `try_from`.
+// The rise in millidegrees, rounded up for gain and loss.
+// The casts here and in `risen` are proved to fit, so there is no `try_from`.
 fn rise(member: &Member, capacity: u32, flux: i32) -> i64
     requires least { 300 ≤ capacity }
     requires most { capacity ≤ 6000 }
@@ -112,6 +113,6 @@ impl<S: Steel, F: Fire> Sheet<S, F> {
         ensures law { Lawful (view_of S.Steel F.Fire self.old) (Heat asked) (reply (view_of S.Steel F.Fire self.old) (Heat asked)) (view_of S.Steel F.Fire self.new) }
     {
         let (made, stop) = self.make_steps(asked);
-        (made, stop.map_or(0, |stop| stop.number()))
+        (made, Stop::code(stop))
     }
 }
