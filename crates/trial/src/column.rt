@@ -6,13 +6,20 @@ ghost use Rattle.arrayvec.specs.ArrayVec.{array_vec_len};
 
 use arrayvec::ArrayVec;
 
+// The temperature of a step, from 20 to 1,200 degrees.
+#[derive(Clone, Copy)]
+pub(crate) struct Temperature {
+    pub(crate) millidegrees: u32,
+    ghost least: { 20000 ≤ millidegrees },
+    ghost most: { millidegrees ≤ 1200000 },
+}
+
 // The temperature of each standing step in millidegrees, step 0 first.
 #[derive(Drop)]
 pub struct Column {
     temperatures: ArrayVec<u32, 4097>,
     ghost started: { 0 < array_vec_len temperatures },
     ghost few: { array_vec_len temperatures ≤ 4097 },
-    // The range stands here and where a step is added or told: with a struct of its own each view of a step would go through a `map`.
     ghost least: { (k : ℕ) → k < array_vec_len temperatures → 20000 ≤ slice_index temperatures.items k },
     ghost most: { (k : ℕ) → k < array_vec_len temperatures → slice_index temperatures.items k ≤ 1200000 },
 }

@@ -14,6 +14,7 @@ pub enum Refusal {
 }
 
 impl Refusal {
+    // Of its own: a trait over the refusals of all crates would want a crate of its own for this line.
     pub fn number(&self) -> u32
         ensures { result ≡ (refused self.now).0 }
     {

@@ -1,5 +1,6 @@
 // The causes that stop a step.
 ghost use Rattle.std.specs.Prelude.{◌≡◌};
+ghost use Rattle.trial.specs.Course.{stop_code};
 ghost use Rattle.trial.specs.Heating.{unheated};
 ghost use Rattle.trial.specs.Refusal.{stop_number};
 
@@ -20,10 +21,18 @@ pub enum Stop {
 }
 
 impl Stop {
+    // Of its own: a trait over the refusals of all crates would want a crate of its own for this line.
     pub fn number(&self) -> u32
         ensures { result ≡ stop_number self.now }
     {
         *self as u32
+    }
+
+    // The number of what stopped a heat, 0 if nothing did.
+    pub fn code(stop: Option<Stop>) -> u32
+        ensures { result ≡ stop_code stop }
+    {
+        stop.map_or(0, |stop| stop.number())
     }
 }
 

@@ -3,7 +3,7 @@ ghost use Rattle.std.specs.Prelude.{◌≡◌, ℕ, ◌+◌, ◌-◌, ◌<◌, �
 ghost use Rattle.trial.specs.Columns.{steps_of, temperature_of};
 ghost use Rattle.trial.specs.Questions.{hottest, first, temperature_at};
 
-use crate::column::Column;
+use crate::column::{Column, Temperature};
 use arrayvec::ArrayVec;
 
 impl Column {
@@ -32,10 +32,12 @@ impl Column {
     }
 
     // The temperature of the last standing step.
-    pub(crate) fn last(&self) -> u32
-        ensures { result ≡ temperature_of self.now (steps_of self.now) }
+    pub(crate) fn last(&self) -> Temperature
+        ensures { result.millidegrees ≡ temperature_of self.now (steps_of self.now) }
     {
-        self.temperatures[self.standing()]
+        Temperature {
+            millidegrees: self.temperatures[self.standing()],
+        }
     }
 
     pub(crate) fn at(&self, step: usize) -> Option<u32>
@@ -45,15 +47,13 @@ impl Column {
     }
 
     // One step more.
-    pub(crate) fn add(&mut self, temperature: u32)
-        requires room { steps_of self.old < 4096 }
-        requires least { 20000 ≤ temperature }
-        requires most { temperature ≤ 1200000 }
+    pub(crate) fn add(&mut self, temperature: Temperature)
+        requires { steps_of self.old < 4096 }
         ensures standing { steps_of self.new ≡ steps_of self.old + 1 }
-        ensures new { temperature_of self.new (steps_of self.old + 1) ≡ temperature }
+        ensures new { temperature_of self.new (steps_of self.old + 1) ≡ temperature.millidegrees }
         ensures kept { (k : ℕ) → k ≤ steps_of self.old → temperature_of self.new k ≡ temperature_of self.old k }
     {
-        self.temperatures.push(temperature);
+        self.temperatures.push(temperature.millidegrees);
     }
 
     // Takes the last steps away.

@@ -9,6 +9,7 @@ ghost use Rattle.trial.specs.Law.{Lawful};
 ghost use Rattle.trial.specs.Views.{Same, view_of};
 ghost use Rattle.trial.specs.declared.call.Call.TheVariants.{Heat};
 
+use crate::column::Temperature;
 use crate::sheet::Sheet;
 use crate::stop::Stop;
 use fires::{Fire, NoFlux};
@@ -34,7 +35,8 @@ fn inertia(capacity: u32) -> u64
     u64::from(capacity) * 7850
 }
 
-// The rise in millidegrees, rounded up for gain and loss. Exposure is proved to fit, and so is the end of a step below, so no `try_from`.
+// The rise in millidegrees, rounded up for gain and loss.
+// The casts here and in `risen` are proved to fit, so there is no `try_from`.
 fn rise(member: &Member, capacity: u32, flux: i32) -> i64
     requires least { 300 ≤ capacity }
     requires most { capacity ≤ 6000 }
@@ -46,12 +48,11 @@ fn rise(member: &Member, capacity: u32, flux: i32) -> i64
 }
 
 // The temperature that a rise leads to.
-fn risen(temperature: u32, rise: i64) -> u32
-    requires most { temperature ≤ 1200000 }
-    requires rise { Within 1000000 rise }
-    ensures { result ≡ at_least 20000 (pos temperature +ℤ rise) }
+fn risen(temperature: Temperature, rise: i64) -> u32
+    requires { Within 1000000 rise }
+    ensures { result ≡ at_least 20000 (pos temperature.millidegrees +ℤ rise) }
 {
-    (i64::from(temperature) + rise).max(COLDEST) as u32
+    (i64::from(temperature.millidegrees) + rise).max(COLDEST) as u32
 }
 
 impl<S: Steel, F: Fire> Sheet<S, F> {
@@ -60,22 +61,21 @@ impl<S: Steel, F: Fire> Sheet<S, F> {
         ensures { result ≡ next_reading (view_of S.Steel F.Fire self.now) }
     {
         let step = self.column.standing();
-        self.fire.reading_at(step, self.column.last())
+        self.fire.reading_at(step, self.column.last().millidegrees)
     }
 
     // The heat capacity at the last step's whole degree, rounded down.
     fn capacity(&self) -> u32
         ensures { result ≡ next_capacity (view_of S.Steel F.Fire self.now) }
     {
-        self.steel.capacity_at(self.column.last() / 1000)
+        let degree = self.column.last().millidegrees / 1000;
+        self.steel.capacity_at(degree)
     }
 
     // What the next step comes to: the temperature at its end, or what stops it.
-    fn next(&self) -> Result<u32, Stop>
+    fn next(&self) -> Result<Temperature, Stop>
         ensures stop { result_err result ≡ next_stop (view_of S.Steel F.Fire self.now) }
-        ensures end { IfOk result (λ t. t ≡ next_end (view_of S.Steel F.Fire self.now)) }
-        ensures least { IfOk result (λ t. 20000 ≤ t) }
-        ensures most { IfOk result (λ t. t ≤ 1200000) }
+        ensures end { IfOk result (λ t. t.millidegrees ≡ next_end (view_of S.Steel F.Fire self.now)) }
     {
         if self.column.is_full() {
             return Err(Stop::SheetFull);
@@ -86,7 +86,7 @@ impl<S: Steel, F: Fire> Sheet<S, F> {
         if end > LIMIT {
             return Err(Stop::TooHot);
         }
-        Ok(end)
+        Ok(Temperature { millidegrees: end })
     }
 
     // Makes steps one by one until all that are asked for are made or one is stopped: how many were made, and what stopped the next.
@@ -113,6 +113,6 @@ impl<S: Steel, F: Fire> Sheet<S, F> {
         ensures law { Lawful (view_of S.Steel F.Fire self.old) (Heat asked) (reply (view_of S.Steel F.Fire self.old) (Heat asked)) (view_of S.Steel F.Fire self.new) }
     {
         let (made, stop) = self.make_steps(asked);
-        (made, stop.map_or(0, |stop| stop.number()))
+        (made, Stop::code(stop))
     }
 }

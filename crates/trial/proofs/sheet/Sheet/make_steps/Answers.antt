@@ -13,7 +13,7 @@ pub loop-made-preserved : goal.loop-made-preserved
 loop-made-preserved g c =
     let next = c.in-Ok.ensures in
     let added = c.add.ensures in
-    heating_more _ _ c.loop-made.made c.loop-made.invariant c.in-Ok.temperature _ next.stop next.end
+    heating_more _ _ c.loop-made.made c.loop-made.invariant c.in-Ok.temperature.millidegrees _ next.stop next.end
     (record { parts = refl; load = refl; standing = added.standing; new = added.new; kept = added.kept })
 
 pub returns : goal.returns
