@@ -6,7 +6,7 @@ ghost use Rattle.text.specs.Spoken.{fields_of, spoken, told};
 
 use arrayvec::ArrayString;
 use itoa::{Buffer, Integer};
-use trial::Answer;
+use trial::{Answer, Stop};
 
 // The text of one line, its line feed within; none for a line that is taken in silence.
 #[derive(Clone, Copy)]
@@ -99,7 +99,7 @@ impl Spoken for Answer {
         match *self {
             Answer::Heated { made, stop } => {
                 reply.push_number(made);
-                reply.push_number(stop.map_or(0, |stop| stop.number()));
+                reply.push_number(Stop::code(stop));
             }
             Answer::Done(Ok(())) => reply.push_number(0u32),
             Answer::Done(Err(refusal)) => reply.push_number(refusal.number()),
