@@ -31,7 +31,7 @@ impl Row {
 }
 
 // An entry of a table: a row, alone or with more beside it.
-// Not std's `From<P> for Row`: of that a contract has only a relation, and here the contracts name the rows of a table as one list, by a function.
+// `Into<Row>` was tried and is no plainer: of std's `From` a contract has a relation, and here the contracts name the rows as one list, by a function.
 pub trait Tabled {
     ghost row: { Self → Row };
 

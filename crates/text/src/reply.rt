@@ -46,7 +46,7 @@ impl Reply {
         self.text.push_str(Buffer::new().format(number));
     }
 
-    // A comma and the word for an absent number, within the room of one field.
+    // A comma and the word for an absent number. Room as in `push_number`.
     fn push_none(&mut self)
         requires { size_of self.old + 21 ≤ 176 }
         ensures text { text_of self.new ≡ text_of self.old ++ (44 ∷ codes "none") }

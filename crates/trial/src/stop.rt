@@ -8,7 +8,7 @@ use fires::NoFlux;
 use thiserror::Error;
 
 // 4,096 steps stand, the fire has ended, it has no reading, or the step would end above 1,200 degrees.
-// Two of the texts are those of `NoFlux` again, since an error's text is a literal.
+// Two of the texts are those of `NoFlux` again: a variant that held one could have no number of its own.
 #[derive(Clone, Copy, PartialEq, Eq, Debug, Error)]
 pub enum Stop {
     #[error("all 4096 steps stand")]

@@ -64,7 +64,7 @@ fn try_points(points: &[Point]) -> Result<(), Refusal>
     try_each_point(points)
 }
 
-// The first point at fault decides, and at it the smaller number. A loop and no `position`, since each point is held against the one before it.
+// The first point at fault decides, and at it the smaller number. A loop is plainer than `position` here, since each point is held against the one before it.
 fn try_each_point(points: &[Point]) -> Result<(), Refusal>
     ensures { option_map refused (result_err result) ≡ point_fault 0 None points.now }
 {
@@ -125,7 +125,7 @@ fn capacity_of(points: &[Point], degree: u32) -> u32
     last_capacity(first.capacity, rest, clamp(degree))
 }
 
-// The heat capacity of the last point that is not above the degree. A loop: `take_while` and `last` wanted more lemmas for the same.
+// The heat capacity of the last point that is not above the degree. With `take_while` and `last` the check did not find it, and with `fold` it is no plainer.
 fn last_capacity(first: u32, rest: &[Point], degree: u32) -> u32
     ensures { result ≡ capacity_from first rest.now degree }
 {

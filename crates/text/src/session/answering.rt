@@ -72,6 +72,7 @@ impl Session {
     }
 }
 
+// A state is data with a value in each variant, so it is matched.
 impl State {
     fn take_member(&mut self, figures: Figures) -> Reply
         ensures text { text_of result ≡ (entry_turn views (state_by self.old) (Made figures)).0 }
