@@ -1,7 +1,7 @@
-use Rattle.std.proofs.Common.{◌≡◌, ◌^◌, ◌≤◌, ◌∙◌, ◌*ℤ◌, w64, to_z, of_z, pos, rules, arith}
+use Rattle.std.proofs.Common.{◌≡◌, ◌≤◌, ◌∙◌, ◌*ℤ◌, w64, to_z, of_z, pos, rules, arith}
 use Rattle.std.proofs.lemmas.Nat.{mul-le}
-use Rattle.std.proofs.lemmas.Int.{fits_signed_mul, ints, to_z-of_z}
-use Rattle.fires.specs.FluxProducts.{product_within}
+use Rattle.std.proofs.lemmas.Int.{ints}
+use Rattle.fires.specs.FluxProducts.{product_within, widened_product}
 use Rattle.fires.specs.RoundedWithin.{rounded_within}
 use Rattle.trial.proofs.sheet.heating.rise.Goals as goal
 
@@ -11,11 +11,7 @@ module _ (c : goal.After-rounded_up) where
 
   -- the product is what is rounded up, and the result is what comes of it
   product : to_z w64 (of_z w64 (to_z w64 (of_z w64 c.from.result) *ℤ to_z w64 c.exposure.result)) ≡ c.args.flux *ℤ pos c.exposure.result
-  product =
-      let flux : to_z w64 (of_z w64 c.from.result) ≡ c.args.flux = omega (arith, ints) in
-      let times : to_z w64 c.exposure.result ≡ pos c.exposure.result = omega (arith, ints, few) in
-      let fits = fits_signed_mul w64 c.args.flux (pos c.exposure.result) (2 ^ 31) 2500000 (omega (arith, ints)) (omega (arith, ints, few)) (omega arith) in
-      rw (flux, times) (to_z-of_z w64 (c.args.flux *ℤ pos c.exposure.result) fits)
+  product = rw c.from.ensures (widened_product c.args.flux c.exposure.result c.requires.flux (omega (arith, few)))
 
   kept : to_z w64 (of_z w64 c.rounded_up.result) ≡ c.rounded_up.result
   kept = search rules
