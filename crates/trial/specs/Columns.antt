@@ -1,11 +1,10 @@
 -- The steps that a column holds.
-use Rattle.std.specs.Prelude.{ℕ, ◌-◌, slice_index}
-use Rattle.arrayvec.specs.ArrayVec.{array_vec_len}
+use Rattle.std.specs.Prelude.{ℕ, slice_index}
 use Rattle.trial.specs.declared.column.Column.{Column}
 
 -- how many steps stand, step 0 not counted
 abbrev pub steps_of : Column → ℕ
-steps_of c = array_vec_len c.temperatures - 1
+steps_of c = c.standing
 
 -- the temperature of a step, in millidegrees
 abbrev pub temperature_of : Column → ℕ → ℕ

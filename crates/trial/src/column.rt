@@ -14,11 +14,13 @@ pub(crate) struct Temperature {
     ghost most: { millidegrees ≤ 1200000 },
 }
 
-// The temperature of each standing step in millidegrees, step 0 first.
+// The temperature of each step in millidegrees, step 0 first, and how many steps stand after it.
+// Steps taken back stay in the vector until others are written over them: to make it shorter, it would write over each of them at once.
 #[derive(Drop)]
 pub struct Column {
     temperatures: ArrayVec<u32, 4097>,
-    ghost started: { 0 < array_vec_len temperatures },
+    standing: usize,
+    ghost held: { standing < array_vec_len temperatures },
     ghost few: { array_vec_len temperatures ≤ 4097 },
     ghost least: { (k : ℕ) → k < array_vec_len temperatures → 20000 ≤ slice_index temperatures.items k },
     ghost most: { (k : ℕ) → k < array_vec_len temperatures → slice_index temperatures.items k ≤ 1200000 },

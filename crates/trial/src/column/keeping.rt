@@ -6,6 +6,8 @@ ghost use Rattle.trial.specs.Questions.{hottest, first, temperature_at};
 use crate::column::{Column, Temperature};
 use arrayvec::ArrayVec;
 
+const MOST_STEPS: usize = 4096;
+
 impl Column {
     // Step 0 alone, cold.
     pub(crate) fn cold() -> Column
@@ -14,21 +16,24 @@ impl Column {
     {
         let mut temperatures = ArrayVec::new();
         temperatures.push(20_000);
-        Column { temperatures }
+        Column {
+            temperatures,
+            standing: 0,
+        }
     }
 
     // How many steps stand, step 0 not counted.
     pub(crate) fn standing(&self) -> usize
         ensures { result ≡ steps_of self.now }
     {
-        self.temperatures.len() - 1
+        self.standing
     }
 
     // Whether as many steps stand as may.
     pub(crate) fn is_full(&self) -> bool
         ensures { result ≡ nat_le 4096 (steps_of self.now) }
     {
-        self.temperatures.is_full()
+        self.standing == MOST_STEPS
     }
 
     // The temperature of the last standing step.
@@ -36,33 +41,39 @@ impl Column {
         ensures { result.millidegrees ≡ temperature_of self.now (steps_of self.now) }
     {
         Temperature {
-            millidegrees: self.temperatures[self.standing()],
+            millidegrees: self.temperatures[self.standing],
         }
     }
 
     pub(crate) fn at(&self, step: usize) -> Option<u32>
         ensures { result ≡ temperature_at (temperature_of self.now) (steps_of self.now) step }
     {
-        self.temperatures.get(step).copied()
+        self.temperatures[..=self.standing].get(step).copied()
     }
 
-    // One step more.
+    // One step more, in the place of one taken back if there is one.
     pub(crate) fn add(&mut self, temperature: Temperature)
         requires { steps_of self.old < 4096 }
         ensures standing { steps_of self.new ≡ steps_of self.old + 1 }
         ensures new { temperature_of self.new (steps_of self.old + 1) ≡ temperature.millidegrees }
         ensures kept { (k : ℕ) → k ≤ steps_of self.old → temperature_of self.new k ≡ temperature_of self.old k }
     {
-        self.temperatures.push(temperature.millidegrees);
+        let next = self.standing + 1;
+        if next < self.temperatures.len() {
+            self.temperatures[next] = temperature.millidegrees;
+        } else {
+            self.temperatures.push(temperature.millidegrees);
+        }
+        self.standing = next;
     }
 
     // Takes the last steps away.
     pub(crate) fn cut(&mut self, steps: usize)
         requires { steps ≤ steps_of self.old }
         ensures standing { steps_of self.new ≡ steps_of self.old - steps }
-        ensures kept { (k : ℕ) → k ≤ steps_of self.new → temperature_of self.new k ≡ temperature_of self.old k }
+        ensures kept { (k : ℕ) → temperature_of self.new k ≡ temperature_of self.old k }
     {
-        self.temperatures.truncate(self.temperatures.len() - steps);
+        self.standing -= steps;
     }
 
     // The highest temperature of a standing step.
@@ -71,7 +82,7 @@ impl Column {
     {
         let mut highest = self.temperatures[0];
         // A form that the project keeps: a range of steps, and the column read by index.
-        for step in 0..self.temperatures.len() {
+        for step in 0..self.standing + 1 {
             highest = highest.max(self.temperatures[step]);
         }
         highest
@@ -82,7 +93,7 @@ impl Column {
         ensures { result ≡ first (λ k. nat_lt limit (temperature_of self.now k)) (steps_of self.now + 1) }
     {
         // A form that the project keeps: a range of steps, and the column read by index.
-        for step in 0..self.temperatures.len() {
+        for step in 0..self.standing + 1 {
             if limit < self.temperatures[step] {
                 return Some(step);
             }

@@ -90,6 +90,8 @@ impl<S: Steel, F: Fire> Sheet<S, F> {
     }
 
     // Makes steps one by one until all that are asked for are made or one is stopped: how many were made, and what stopped the next.
+    // Inlined into the two calls that use it, so that a call of one step hands no pair through memory.
+    #[inline(always)]
     pub(crate) fn make_steps(&mut self, asked: usize) -> (usize, Option<Stop>)
         ensures made { result.0 ≡ heat_made (view_of S.Steel F.Fire self.old) asked }
         ensures stop { result.1 ≡ heat_stop (view_of S.Steel F.Fire self.old) asked }
