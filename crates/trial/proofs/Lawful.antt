@@ -101,15 +101,21 @@ module _ (calls : List Call) (v : View) (h : Follows v.parts calls v) where
 own : (p : Parts) (calls : List Call) (v : View) → Follows p calls v → Follows v.parts calls v
 own p calls v h = subst (λ q. Follows q calls v) (sym h.parts) h
 
-law_holds : (p : Parts) (calls : List Call) (v : View) → Factor p.strength → Factor p.stiffness → Follows p calls v → Law p calls v
+pub law_holds : (p : Parts) (calls : List Call) (v : View) → Factor v.parts.strength → Factor v.parts.stiffness → Follows p calls v → Law p calls v
 law_holds p calls v fy fz h = record {
   course = course p;
   follows = h;
   at_once = at_once calls v (own p calls v h);
-  verdict = verdict calls v (own p calls v h) (subst (λ q. Factor q.strength) (sym h.parts) fy) (subst (λ q. Factor q.stiffness) (sym h.parts) fz);
+  verdict = verdict calls v (own p calls v h) fy fz;
   outlasts = λ q others w g better. outlasts calls others v w (own p calls v h) (own q others w g) better;
   outlasted = λ q others w g better. outlasts others calls w v (own q others w g) (own p calls v h) better;
 }
+
+-- whatever answers a call so and leaves this keeps the law
+pub lawful_views : (v w : View) (c : Call) (r : Answer) → Factor w.parts.strength → Factor w.parts.stiffness → r ≡ reply v c → Same (after v c) w → Lawful v c r w
+lawful_views v w c r fy fz told same p calls h =
+    let on = goes_on calls v w c (own p calls v h) same in
+    (told ∙ (on.0 ∙ ap (λ q. answer q (tally q calls) c) h.parts), law_holds p _ w fy fz (subst (λ q. Follows q (calls ++ (c ∷ [])) w) h.parts on.1))
 
 -- what a call owes when it returns
 abbrev Answered : View → Call → Answer → View → Type 0
@@ -117,15 +123,20 @@ Answered v c r w = record { answer : r ≡ reply v c; after : Same (after v c) w
 
 -- so for sheets over any steel and fire
 module _ {S F : Type 0} (s : steel.Ghosts S) (f : fire.Ghosts F) (factors : (x : S) (r : Reduction) → Factor (s.factor x r)) where
+  -- parts that are those of a steel have its factors
+  factor_of : (cell : Parts → ℕ → ℕ) (x : S) (r : Reduction) (p q : Parts) → s.factor x r ≡ cell p → q ≡ p → Factor (cell q)
+  factor_of cell x r p q is same = subst (λ t. Factor (cell t)) (sym same) (subst Factor is (factors x r))
+
   pub law_starts : (member : Member) (its_steel : S) (its_fire : F) (v : View) → let p = parts_of s f member its_steel its_fire in Same (new_view p) v → Law p [] v
   law_starts member its_steel its_fire v new =
-      law_holds _ [] v (factors its_steel Strength) (factors its_steel Stiffness)
+      let p = parts_of s f member its_steel its_fire in
+      law_holds p [] v (factor_of (λ q. q.strength) its_steel Strength p v.parts refl new.parts) (factor_of (λ q. q.stiffness) its_steel Stiffness p v.parts refl new.parts)
       (subst (λ q. Follows q [] v) new.parts (starts v new.standing new.load (new.temperature 0 (omega arith))))
 
   pub lawful : (old : Sheet S F) (c : Call) (r : Answer) (w : View) → Answered (view_of s f old) c r w → Lawful (view_of s f old) c r w
   lawful old c r w done p calls h =
       let v = view_of s f old in
-      let on = goes_on calls v w c (own p calls v h) done.after in (
-        done.answer ∙ (on.0 ∙ ap (λ q. answer q (tally q calls) c) h.parts),
-        subst (λ q. Law q (calls ++ (c ∷ [])) w) h.parts (law_holds v.parts _ w (factors old.steel Strength) (factors old.steel Stiffness) on.1),
-      )
+      let on = goes_on calls v w c (own p calls v h) done.after in
+      lawful_views v w c r
+      (factor_of (λ q. q.strength) old.steel Strength v.parts w.parts refl on.1.parts) (factor_of (λ q. q.stiffness) old.steel Stiffness v.parts w.parts refl on.1.parts)
+      done.answer done.after p calls h
