@@ -42,12 +42,15 @@ fn curve_of(given: &[u32]) -> Result<GasCurve, Refusal>
     ensures fault { option_map refused (result_err result) ≡ gas_fault given.now }
     ensures taken { IfOk result (λ curve. temperatures_of curve ≡ given.now) }
 {
-    let temperatures = ArrayVec::try_from(given).map_err(|_| Refusal::GasTemperature {
-        step: MOST_STEPS,
-    })?;
+    // Looked at before any is copied, so that a refusal costs no more than the look.
+    if given.len() > MOST_STEPS {
+        return Err(Refusal::GasTemperature { step: MOST_STEPS });
+    }
     match first_outside(given) {
         Some(step) => Err(Refusal::GasTemperature { step }),
-        None => Ok(GasCurve { temperatures }),
+        None => Ok(GasCurve {
+            temperatures: ArrayVec::try_from(given).unwrap(),
+        }),
     }
 }
 
