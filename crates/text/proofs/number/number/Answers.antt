@@ -1,13 +1,10 @@
-use Rattle.std.proofs.Common.{rules}
-use Rattle.text.proofs.Digits.{front_text, front_small, front_read}
+use Rattle.std.proofs.Common.{take, sym, ap, ◌∙◌, subst, arith}
+use Rattle.std.specs.Str.Parse.{AllDigits}
+use Rattle.text.proofs.Digits.{front_digits}
 use Rattle.text.proofs.number.number.Goals as goal
 
-pub returns-in_err-ok-in-1-to-10-clause-value : goal.returns-in_err-ok-in-1-to-10-clause-value
-returns-in_err-ok-in-1-to-10-clause-value c = search (rules, front_text c.args.text.now)
-
-pub returns-in_err-value-in-1-to-10-clause-value :
-    goal.returns-in_err-value-in-1-to-10-clause-value
-returns-in_err-value-in-1-to-10-clause-value c = search (rules, front_read c.args.text.now)
-
-pub returns-in_ok-value-in-1-to-10-clause-range : goal.returns-in_ok-value-in-1-to-10-clause-range
-returns-in_ok-value-in-1-to-10-clause-range c = search (rules, front_small c.args.text.now)
+pub digits_value-requires : goal.digits_value-requires
+digits_value-requires c = record {
+  few = omega (arith, c.split_at.ensures.front_len);
+  digits = subst (AllDigits 10) (ap (λ n. take n c.args.text.now) (sym c.digit_count.ensures.value) ∙ sym c.split_at.ensures.front) (front_digits c.args.text.now);
+}
