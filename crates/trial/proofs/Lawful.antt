@@ -123,20 +123,18 @@ Answered v c r w = record { answer : r ≡ reply v c; after : Same (after v c) w
 
 -- so for sheets over any steel and fire
 module _ {S F : Type 0} (s : steel.Ghosts S) (f : fire.Ghosts F) (factors : (x : S) (r : Reduction) → Factor (s.factor x r)) where
-  -- parts that are those of a steel have its factors
-  factor_of : (cell : Parts → ℕ → ℕ) (x : S) (r : Reduction) (p q : Parts) → s.factor x r ≡ cell p → q ≡ p → Factor (cell q)
-  factor_of cell x r p q is same = subst (λ t. Factor (cell t)) (sym same) (subst Factor is (factors x r))
+  -- parts that are a sheet's have the factors of its steel
+  factored : (member : Member) (its_steel : S) (its_fire : F) (p : Parts) → p ≡ parts_of s f member its_steel its_fire → Factor p.strength × Factor p.stiffness
+  factored member its_steel its_fire p same = subst (λ q. Factor q.strength × Factor q.stiffness) (sym same) (factors its_steel Strength, factors its_steel Stiffness)
 
   pub law_starts : (member : Member) (its_steel : S) (its_fire : F) (v : View) → let p = parts_of s f member its_steel its_fire in Same (new_view p) v → Law p [] v
   law_starts member its_steel its_fire v new =
-      let p = parts_of s f member its_steel its_fire in
-      law_holds p [] v (factor_of (λ q. q.strength) its_steel Strength p v.parts refl new.parts) (factor_of (λ q. q.stiffness) its_steel Stiffness p v.parts refl new.parts)
-      (subst (λ q. Follows q [] v) new.parts (starts v new.standing new.load (new.temperature 0 (omega arith))))
+      let fs = factored member its_steel its_fire v.parts new.parts in
+      law_holds _ [] v fs.0 fs.1 (subst (λ q. Follows q [] v) new.parts (starts v new.standing new.load (new.temperature 0 (omega arith))))
 
   pub lawful : (old : Sheet S F) (c : Call) (r : Answer) (w : View) → Answered (view_of s f old) c r w → Lawful (view_of s f old) c r w
   lawful old c r w done p calls h =
       let v = view_of s f old in
       let on = goes_on calls v w c (own p calls v h) done.after in
-      lawful_views v w c r
-      (factor_of (λ q. q.strength) old.steel Strength v.parts w.parts refl on.1.parts) (factor_of (λ q. q.stiffness) old.steel Stiffness v.parts w.parts refl on.1.parts)
-      done.answer done.after p calls h
+      let fs = factored old.member old.steel old.fire w.parts on.1.parts in
+      lawful_views v w c r fs.0 fs.1 done.answer done.after p calls h
